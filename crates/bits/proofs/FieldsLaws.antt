@@ -1,0 +1,93 @@
+-- Laws of runs of fields, over any run. Assumes nothing.
+use mathlib.Core.Path.{_≡_, refl, sym, ap, ap₂, subst, _∙_}
+use mathlib.Core.Logic.{_⊎_, inl, inr}
+use mathlib.Core.List.{List, [], _∷_, _++_}
+use Prim.Native.Nat.{ℕ, _+_, _*_, _^_, _≤_, _<_}
+use native.Mathlib.Nat.{add-zero, zero-add, add-assoc}
+use native.Mathlib.Omega.{arith}
+use lib.ListN.{length}
+use Rattle.bits.specs.Field.{bitAt, field, putField}
+use Rattle.bits.proofs.BitLaws.{length-put}
+use Rattle.bits.proofs.BitLaws.{put-outside, field-ext, read-back-fits}
+use Rattle.bits.proofs.SameBits.{bytes-put, put-same}
+use Rattle.bits.specs.Fields.{Field, bits, total, putAll, Holds, Fit, Bytes}
+
+pub total-append : (xs ys : List Field) → total (xs ++ ys) ≡ total xs + total ys
+unfolding total
+total-append [] ys = sym (zero-add (total ys))
+total-append (bits w v ∷ xs) ys = ap (λ (n : ℕ). w + n) (total-append xs ys) ∙ sym (add-assoc w (total xs) (total ys))
+
+-- a run is put by its parts
+pub put-append : (s : List ℕ) (p : ℕ) (xs ys : List Field) → putAll s p (xs ++ ys) ≡ putAll (putAll s p xs) (p + total xs) ys
+unfolding total putAll
+put-append s p [] ys = ap (λ (n : ℕ). putAll s n ys) (sym (add-zero p))
+put-append s p (bits w v ∷ xs) ys =
+    put-append (putField s p w v) (p + w) xs ys
+    ∙ ap (λ (n : ℕ). putAll (putAll (putField s p w v) (p + w) xs) n ys) (add-assoc p w (total xs))
+
+pub length-put-all : (s : List ℕ) (p : ℕ) (fs : List Field) → length (putAll s p fs) ≡ length s
+unfolding putAll
+length-put-all s p [] = refl
+length-put-all s p (bits w v ∷ fs) = length-put-all (putField s p w v) (p + w) fs ∙ length-put s p w v
+
+-- bits outside the run stay
+pub put-all-outside : (s : List ℕ) (p : ℕ) (fs : List Field) (k : ℕ) → p + total fs ≤ length s * 8 → (k < p) ⊎ (p + total fs ≤ k)
+    → bitAt (putAll s p fs) k ≡ bitAt s k
+unfolding total putAll
+put-all-outside s p [] k h o = refl
+put-all-outside s p (bits w v ∷ fs) k h o =
+    put-all-outside (putField s p w v) (p + w) fs k (rw (length-put s p w v) (omega arith)) (later o)
+    ∙ put-outside s p w v k (omega arith) (first o)
+  where
+    later : (k < p) ⊎ (p + (w + total fs) ≤ k) → (k < p + w) ⊎ (p + w + total fs ≤ k)
+    later (inl l) = inl (omega arith)
+    later (inr l) = inr (omega arith)
+
+    first : (k < p) ⊎ (p + (w + total fs) ≤ k) → (k < p) ⊎ (p + w ≤ k)
+    first (inl l) = inl l
+    first (inr l) = inr (omega arith)
+
+-- what was put stands there
+pub put-all-holds : (s : List ℕ) (p : ℕ) (fs : List Field) → p + total fs ≤ length s * 8 → Fit fs → Holds (putAll s p fs) p fs
+unfolding total putAll Holds Fit
+put-all-holds s p [] h f = tt
+put-all-holds s p (bits w v ∷ fs) h f =
+    let t = putField s p w v in
+    let l : p + w + total fs ≤ length t * 8 = rw (length-put s p w v) (omega arith) in (
+      field-ext (putAll t (p + w) fs) t p w (λ i a b. put-all-outside t (p + w) fs i l (inl b))
+          ∙ read-back-fits s p w v (omega arith) (f .0),
+      put-all-holds t (p + w) fs l (f .1),
+    )
+
+pub bytes-put-all : (s : List ℕ) (p : ℕ) (fs : List Field) → p + total fs ≤ length s * 8 → Bytes s → Bytes (putAll s p fs)
+unfolding total putAll
+bytes-put-all s p [] h b = b
+bytes-put-all s p (bits w v ∷ fs) h b =
+    bytes-put-all (putField s p w v) (p + w) fs (rw (length-put s p w v) (omega arith)) (bytes-put s p w v (omega arith) b)
+
+-- what stands there already changes nothing
+pub put-all-same : (s : List ℕ) (p : ℕ) (fs : List Field) → p + total fs ≤ length s * 8 → Bytes s → Holds s p fs → putAll s p fs ≡ s
+unfolding total putAll Holds
+put-all-same s p [] h b q = refl
+put-all-same s p (bits w v ∷ fs) h b q =
+    let e : putField s p w v ≡ s = ap (putField s p w) (sym (q .0)) ∙ put-same s p w (omega arith) b in
+    ap (λ (t : List ℕ). putAll t (p + w) fs) e ∙ put-all-same s (p + w) fs (omega arith) b (q .1)
+
+-- the parts of a run that stands there, and its first field
+pub holds-append : (s : List ℕ) (p : ℕ) (xs ys : List Field) → Holds s p (xs ++ ys) → Holds s p xs × Holds s (p + total xs) ys
+unfolding total Holds
+holds-append s p [] ys q = (tt, subst (λ (n : ℕ). Holds s n ys) (sym (add-zero p)) q)
+holds-append s p (bits w v ∷ xs) ys q =
+    let r = holds-append s (p + w) xs ys (q .1) in
+    ((q .0, r .0), subst (λ (n : ℕ). Holds s n ys) (add-assoc p w (total xs)) (r .1))
+
+pub holds-join : (s : List ℕ) (p : ℕ) (xs ys : List Field) → Holds s p xs → Holds s (p + total xs) ys → Holds s p (xs ++ ys)
+unfolding total Holds
+holds-join s p [] ys q r = subst (λ (n : ℕ). Holds s n ys) (add-zero p) r
+holds-join s p (bits w v ∷ xs) ys q r =
+    (q .0, holds-join s (p + w) xs ys (q .1) (subst (λ (n : ℕ). Holds s n ys) (sym (add-assoc p w (total xs))) r))
+
+pub fit-append : (xs ys : List Field) → Fit xs → Fit ys → Fit (xs ++ ys)
+unfolding Fit
+fit-append [] ys a b = b
+fit-append (bits w v ∷ xs) ys a b = (a .0, fit-append xs ys (a .1) b)

@@ -1,0 +1,15 @@
+pub mod FieldLaws
+pub mod BitLaws
+pub mod SpliceLaws
+pub mod PartLaws
+pub mod SameBits
+pub mod SignedCode
+pub mod SignedLaws
+pub mod FieldsLaws
+pub mod Ground
+pub mod ReadLaws
+pub mod WriteLaws
+pub mod XorLaws
+pub mod CrcLaws
+pub mod ToldLaws
+pub mod Examples

@@ -1,0 +1,115 @@
+-- Laws of reading a field: which answer is given when, and what an answer tells. Assumes nothing.
+use mathlib.Core.Path.{_≡_, refl, sym, ap, _∙_}
+use mathlib.Core.Bool.{Bool, true, false, cond}
+use mathlib.Core.List.{List}
+use Prim.Native.Nat.{ℕ, _+_, _*_, _^_, _≤_, _<_}
+use native.Mathlib.Decide.{decLt}
+use native.Mathlib.Omega.{arith}
+use lib.Dec.{ltb}
+use lib.ListN.{length}
+use borrow.Author.Tests.{lt-ltb, le-ltb}
+use Rattle.bits.specs.Told.{Told, Accepted, Refused, size, width, short, andThen}
+use Rattle.bits.specs.Field.{field, Reading, reading, readBy, readUnsigned}
+use Rattle.bits.specs.Steps.{groundOf}
+use Rattle.bits.specs.declared.field.Ground.{Ground}
+use Rattle.bits.specs.declared.field.Ground.the-variants.{Firm, Size, Width}
+use Rattle.bits.proofs.FieldLaws.{field-lt}
+use Rattle.bits.proofs.Ground.{onGround, by-ground, firm, is-firm}
+
+-- ---- by the ground, as the code decides
+
+module _ {A : Type 0} (meaning : ℕ → A) (s : List ℕ) (p w : ℕ) where
+  -- what is left to decide on firm ground
+  rest : Told (Reading A)
+  rest = cond (ltb (length s * 8) (p + w)) (short p) (Accepted (reading (meaning (field s p w)) (p + w)))
+
+  read-on : readBy meaning s p w ≡ onGround (groundOf (length s) w) size width rest
+  unfolding readBy rest
+  read-on = by-ground (length s) w size width (cond (ltb (length s * 8) (p + w)) (short p) (Accepted (reading (meaning (field s p w)) (p + w))))
+
+  pub read-size : groundOf (length s) w ≡ Size → size ≡ readBy meaning s p w
+  read-size e = rw (read-on, e)
+
+  pub read-width : groundOf (length s) w ≡ Width → width ≡ readBy meaning s p w
+  read-width e = rw (read-on, e)
+
+  pub read-short : groundOf (length s) w ≡ Firm → length s * 8 < p + w → short p ≡ readBy meaning s p w
+  unfolding rest
+  read-short e h = rw (read-on, e, lt-ltb _ _ h)
+
+  pub read-value : groundOf (length s) w ≡ Firm → p + w ≤ length s * 8 → Accepted (reading (meaning (field s p w)) (p + w)) ≡ readBy meaning s p w
+  unfolding rest
+  read-value e h = rw (read-on, e, le-ltb _ _ h)
+
+  -- ---- by the sizes, for callers
+
+  module _ (few : length s ≤ 1023) (low : 1 ≤ w) (high : w ≤ 64) where
+    pub reads-value : p + w ≤ length s * 8 → readBy meaning s p w ≡ Accepted (reading (meaning (field s p w)) (p + w))
+    reads-value h = sym (read-value (is-firm (length s) w few low high) h)
+
+    pub reads-short : length s * 8 < p + w → readBy meaning s p w ≡ short p
+    reads-short h = sym (read-short (is-firm (length s) w few low high) h)
+
+    -- a field that is refused there is cut short
+    pub refused-short : {n : ℕ} {carried : List ℕ} → readBy meaning s p w ≡ Refused n carried → readBy meaning s p w ≡ short p
+    refused-short e = go (decLt (length s * 8) (p + w))
+      where
+        go : Dec (length s * 8 < p + w) → readBy meaning s p w ≡ short p
+        go (yes h) = reads-short h
+        go (no h) = let d = reads-value (omega arith) in let z : _≡_ {A = ℕ} 0 1 = cc in absurd (omega arith)
+
+  -- what an accepted field tells
+  pub record Read (r : Reading A) : Type 0 where
+    pub few : length s ≤ 1023
+    pub low : 1 ≤ w
+    pub high : w ≤ 64
+    pub within : p + w ≤ length s * 8
+    pub is : r ≡ reading (meaning (field s p w)) (p + w)
+
+  pub read-tells : {r : Reading A} → readBy meaning s p w ≡ Accepted r → Read r
+  unfolding rest
+  read-tells {r} e = go (groundOf (length s) w) refl
+    where
+      go : (g : Ground) → groundOf (length s) w ≡ g → Read r
+      go Size q = let d = read-size q in let z : _≡_ {A = ℕ} 0 1 = cc in absurd (omega arith)
+      go Width q = let d = read-width q in let z : _≡_ {A = ℕ} 0 1 = cc in absurd (omega arith)
+      go Firm q = by (decLt (length s * 8) (p + w))
+        where
+          by : Dec (length s * 8 < p + w) → Read r
+          by (yes h) = let d = read-short q h in let z : _≡_ {A = ℕ} 0 1 = cc in absurd (omega arith)
+          by (no h) =
+              let f = firm (length s) w q in
+              let d = read-value q (omega arith) in
+              record { few = f .0; low = f .1; high = f .2; within = omega arith; is = cc }
+
+-- ---- every reading is the unsigned one, understood
+
+abbrev pub understood : {A : Type 0} → (ℕ → A) → Told (Reading ℕ) → Told (Reading A)
+understood meaning (Accepted r) = Accepted (reading (meaning (r .value)) (r .next))
+understood meaning (Refused n carried) = Refused n carried
+
+pub read-as : {A : Type 0} (meaning : ℕ → A) (s : List ℕ) (p w : ℕ) → readBy meaning s p w ≡ understood meaning (readUnsigned s p w)
+unfolding rest
+read-as meaning s p w = rw (read-on meaning s p w, read-on (λ v. v) s p w) (go (groundOf (length s) w) (ltb (length s * 8) (p + w)))
+  where
+    go : (g : Ground) (b : Bool)
+        → onGround g size width (cond b (short p) (Accepted (reading (meaning (field s p w)) (p + w))))
+        ≡ understood meaning (onGround g size width (cond b (short p) (Accepted (reading (field s p w) (p + w)))))
+    go Size b = refl
+    go Width b = refl
+    go Firm true = refl
+    go Firm false = refl
+
+module _ {A : Type 0} (meaning : ℕ → A) (s : List ℕ) (p w : ℕ) where
+  -- from the unsigned number that the code has in hand
+  pub value-as : {v q : ℕ} {x : A} → Accepted (reading v q) ≡ readUnsigned s p w → x ≡ meaning v → Accepted (reading x q) ≡ readBy meaning s p w
+  value-as {v} {q} {x} e d = ap (λ (y : A). Accepted (reading y q)) d ∙ ap (understood meaning) e ∙ sym (read-as meaning s p w)
+
+  pub refused-as : {n : ℕ} {carried : List ℕ} → Refused n carried ≡ readUnsigned s p w → Refused n carried ≡ readBy meaning s p w
+  refused-as e = ap (understood meaning) e ∙ sym (read-as meaning s p w)
+
+pub value-tells : (s : List ℕ) (p w : ℕ) {v q : ℕ} → Accepted (reading v q) ≡ readUnsigned s p w → (1 ≤ w) × (w ≤ 64) × (v < 2 ^ w)
+value-tells s p w {v} {q} e =
+    let t = read-tells (λ x. x) s p w (sym e) in
+    let d : v ≡ field s p w = ap (λ r. r .value) (t .is) in
+    (t .low, t .high, rw d (field-lt s p w))

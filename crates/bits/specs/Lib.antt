@@ -1,0 +1,7 @@
+pub mod Told
+pub mod Field
+pub mod Signed
+pub mod Answers
+pub mod Fields
+pub mod Crc
+pub mod Steps

@@ -1,0 +1,170 @@
+// Reading and writing one field of 1 to 64 bits, unsigned, in two's complement or as sign and magnitude.
+ghost use mathlib.Core.Path.{_≡_};
+ghost use mathlib.Core.Bool.{cond};
+ghost use Prim.Native.Nat.{_+_, _*_, _≤_};
+ghost use lib.ListN.{length};
+ghost use lib.Dec.{ltb};
+ghost use Rattle.bits.specs.Told.{Accepted, room};
+ghost use Rattle.bits.specs.Field.{readUnsigned, readTwos, readSignmag, wrote, writeUnsigned, writeTwos, writeSignmag, putField};
+ghost use Rattle.bits.specs.Answers.{toldUnsigned, toldSigned, toldWritten};
+ghost use Rattle.bits.specs.Steps.{groundOf, placed};
+use crate::raw;
+use crate::signed;
+
+// What reading a field as an unsigned number answers: the number and the bit behind the field; or a refusal.
+pub enum Unsigned {
+    Value(u64, usize),
+    Size,
+    Width,
+    // Carries the bit where the field starts.
+    Short(usize),
+}
+
+// What reading a field as a signed number answers: the number and the bit behind the field; or a refusal.
+pub enum Signed {
+    Value(i64, usize),
+    Size,
+    Width,
+    // Carries the bit where the field starts.
+    Short(usize),
+}
+
+// What writing a field answers: the bit behind it; or a refusal.
+pub enum Written {
+    End(usize),
+    Size,
+    Width,
+    Range,
+    // Carries the field's width.
+    Room(usize),
+}
+
+// Reads the field of `width` bits from bit `start` on as an unsigned number.
+pub fn read_unsigned(bytes: &[u8], start: usize, width: usize) -> Unsigned
+    ensures { λ r. ⌜ toldUnsigned r ≡ readUnsigned (now (bytes .entry)) start width ⌝ }
+{
+    match ground_of(bytes.len(), width) {
+        Ground::Size => Unsigned::Size,
+        Ground::Width => Unsigned::Width,
+        Ground::Firm => {
+            let all = bytes.len() * 8;
+            if all < width {
+                return Unsigned::Short(start);
+            }
+            if all - width < start {
+                return Unsigned::Short(start);
+            }
+            Unsigned::Value(raw::field_at(bytes, start, width), start + width)
+        }
+    }
+}
+
+// Reads a field in two's complement.
+pub fn read_twos(bytes: &[u8], start: usize, width: usize) -> Signed
+    ensures { λ r. ⌜ toldSigned r ≡ readTwos (now (bytes .entry)) start width ⌝ }
+{
+    match read_unsigned(bytes, start, width) {
+        Unsigned::Value(v, next) => Signed::Value(signed::twos(v, width), next),
+        Unsigned::Size => Signed::Size,
+        Unsigned::Width => Signed::Width,
+        Unsigned::Short(place) => Signed::Short(place),
+    }
+}
+
+// Reads a field as sign and magnitude: minus zero reads as 0.
+pub fn read_signmag(bytes: &[u8], start: usize, width: usize) -> Signed
+    ensures { λ r. ⌜ toldSigned r ≡ readSignmag (now (bytes .entry)) start width ⌝ }
+{
+    match read_unsigned(bytes, start, width) {
+        Unsigned::Value(v, next) => Signed::Value(signed::signmag(v, width), next),
+        Unsigned::Size => Signed::Size,
+        Unsigned::Width => Signed::Width,
+        Unsigned::Short(place) => Signed::Short(place),
+    }
+}
+
+// Writes an unsigned number into the `width` bits from bit `start` on.
+pub fn write_unsigned(bytes: &mut [u8], start: usize, width: usize, value: u64) -> Written
+    ensures { λ r. ⌜ wrote (toldWritten r) (now (bytes .exit)) ≡ writeUnsigned (now (bytes .entry)) start width value ⌝ }
+{
+    match ground_of(bytes.len(), width) {
+        Ground::Size => Written::Size,
+        Ground::Width => Written::Width,
+        Ground::Firm => {
+            if !signed::fits_unsigned(value, width) {
+                return Written::Range;
+            }
+            place(bytes, start, width, value)
+        }
+    }
+}
+
+// Writes a number in two's complement.
+pub fn write_twos(bytes: &mut [u8], start: usize, width: usize, value: i64) -> Written
+    ensures { λ r. ⌜ wrote (toldWritten r) (now (bytes .exit)) ≡ writeTwos (now (bytes .entry)) start width value ⌝ }
+{
+    match ground_of(bytes.len(), width) {
+        Ground::Size => Written::Size,
+        Ground::Width => Written::Width,
+        Ground::Firm => {
+            if !signed::fits_twos(value, width) {
+                return Written::Range;
+            }
+            place(bytes, start, width, signed::twos_bits(value, width))
+        }
+    }
+}
+
+// Writes a number as sign and magnitude.
+pub fn write_signmag(bytes: &mut [u8], start: usize, width: usize, value: i64) -> Written
+    ensures { λ r. ⌜ wrote (toldWritten r) (now (bytes .exit)) ≡ writeSignmag (now (bytes .entry)) start width value ⌝ }
+{
+    match ground_of(bytes.len(), width) {
+        Ground::Size => Written::Size,
+        Ground::Width => Written::Width,
+        Ground::Firm => {
+            if !signed::fits_signmag(value, width) {
+                return Written::Range;
+            }
+            place(bytes, start, width, signed::signmag_bits(value, width))
+        }
+    }
+}
+
+// What is refused before the number and the place are looked at.
+enum Ground {
+    Firm,
+    Size,
+    Width,
+}
+
+fn ground_of(n: usize, width: usize) -> Ground
+    ensures { λ r. ⌜ r ≡ groundOf n width ⌝ }
+{
+    if 1023 < n {
+        return Ground::Size;
+    }
+    if width == 0 {
+        return Ground::Width;
+    }
+    if 64 < width {
+        return Ground::Width;
+    }
+    Ground::Firm
+}
+
+// Writes a number that fits its width, where the data reaches so far.
+fn place(bytes: &mut [u8], start: usize, width: usize, number: u64) -> Written
+    requires { ⌜ (1 ≤ width) × (width ≤ 64) × (length (now bytes) ≤ 1023) ⌝ }
+    ensures { λ r. ⌜ wrote (toldWritten r) (now (bytes .exit)) ≡ placed (now (bytes .entry)) start width number ⌝ }
+{
+    let all = bytes.len() * 8;
+    if all < width {
+        return Written::Room(width);
+    }
+    if all - width < start {
+        return Written::Room(width);
+    }
+    raw::put_field(bytes, start, width, number);
+    Written::End(start + width)
+}
