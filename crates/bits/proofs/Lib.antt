@@ -13,3 +13,4 @@ pub mod XorLaws
 pub mod CrcLaws
 pub mod ToldLaws
 pub mod Examples
+pub mod OntoLaws
