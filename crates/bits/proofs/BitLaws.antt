@@ -1,18 +1,17 @@
 -- Writing keeps the length, changes exactly the named bits, and what is written is read back. Assumes nothing.
-use mathlib.Core.Path.{_≡_, refl, sym, ap, ap₂, subst, _∙_}
+use mathlib.Core.Path.{_≡_, refl, sym, ap, ap₂, _∙_}
 use mathlib.Core.Logic.{_⊎_, inl, inr}
 use mathlib.Core.List.{List}
 use Prim.Native.Nat.{ℕ, zero, suc, _+_, _-_, _*_, _/_, _%_, _^_, _≤_, _<_}
-use native.Mathlib.Nat.{mod-lt, zero-lt-suc, add-comm, mod-eq-of-lt, pow-suc, mul-comm, mul-assoc, add-mul, add-assoc, add-zero, mod-one}
+use native.Mathlib.Nat.{mod-lt, zero-lt-suc, mod-eq-of-lt, pow-suc, mul-comm, mul-assoc, add-mul, add-assoc, mod-one}
 use native.Mathlib.Numerals.{add-one}
 use native.Mathlib.Decide.{decLt, ℕ-discrete}
 use native.Mathlib.Omega.{arith}
 use lib.ListN.{length, getD, set, length-set}
 use lib.Seq.{getD-set-same, getD-set-other}
-use lib.Arith.{digits-lt, digits-div, digits-mod}
-use lib.Pow.{pow-pos, pow-add, split, high, low, mod-pow-add, mod-mod-pow, shr-shr, field as pow-field}
+use lib.Arith.{digits-lt, digits-mod}
+use lib.Pow.{pow-pos, high, low, mod-pow-add, mod-mod-pow, shr-shr, field as pow-field}
 use Rattle.bits.specs.Field.{bitAt, field, withBit, setBit, putField}
-use Rattle.bits.proofs.FieldLaws.{field-more}
 
 -- ---- the length stays
 

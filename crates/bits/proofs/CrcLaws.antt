@@ -1,16 +1,16 @@
--- Laws of the checksum: it is linear, it stays below 2 ^ 24, and a byte's eight steps are one look into a table. Assumes nothing.
-use mathlib.Core.Path.{_≡_, refl, sym, ap, ap₂, _∙_, subst}
+-- Laws of the checksum: of an exclusive-or, its bound, and of an append. Assumes nothing.
+use mathlib.Core.Path.{_≡_, refl, ap, ap₂, _∙_}
 use mathlib.Core.List.{List, [], _∷_, _++_}
 use Prim.Native.Nat.{ℕ, zero, suc, _+_, _*_, _/_, _%_, _^_, _≤_, _<_}
-use native.Mathlib.Nat.{mod-lt, zero-lt-suc, mod-eq-of-lt, div-eq-of-lt, mul-assoc, pow-suc, zero-mul, mul-one, lt-of-lt-of-le}
+use native.Mathlib.Nat.{mod-lt, zero-lt-suc}
 use native.Mathlib.Omega.{arith}
 use lib.ListN.{length, getD, drop, drop-of-length-le}
 use lib.Seq.{drop-cons}
 use native.Mathlib.Numerals.{add-one}
-use lib.Pow.{pow-pos, pow-mono, split, shl-lt, shr-lt}
-use lib.Bits.{bitXor, xor-shr, xor-mod, xor-lt, xor-shifted, xor-comm, xor-zero-l}
+use lib.Pow.{pow-pos}
+use lib.Bits.{bitXor, xor-shr, xor-mod, xor-lt}
 use Rattle.bits.specs.Crc.{crcBit, crcBits, crcByte, crcFrom, crc, xors}
-use Rattle.bits.proofs.XorLaws.{xor-assoc, xor-swap, xor-shl, xor-times}
+use Rattle.bits.proofs.XorLaws.{xor-swap, xor-shl, xor-times}
 
 -- ---- linear
 
@@ -44,6 +44,7 @@ from-linear (x ∷ a) (y ∷ b) c d e =
     ap (λ (n : ℕ). crcFrom n (xors a b)) (byte-linear c d x y)
     ∙ from-linear a b (crcByte c x) (crcByte d y) (omega arith)
 
+-- the checksum of an exclusive-or is the exclusive-or of the checksums
 pub crc-linear : (a b : List ℕ) → length a ≡ length b → crc (xors a b) ≡ bitXor (crc a) (crc b)
 unfolding crc
 crc-linear a b e = from-linear a b 0 0 e
@@ -80,31 +81,10 @@ unfolding crcFrom
 from-append [] t c = refl
 from-append (b ∷ s) t c = from-append s t (crcByte c b)
 
--- ---- one look into a table
-
-bit-small : (c : ℕ) → c < 2 ^ 23 → crcBit c ≡ c * 2
-unfolding crcBit
-bit-small c h =
-    ap₂ (λ (x y : ℕ). bitXor (x % 2 * 0x864CFB) y) (div-eq-of-lt h) (mod-eq-of-lt (omega arith))
-
-pub bits-small : (n j c : ℕ) → c < 2 ^ j → j + n ≤ 24 → crcBits n c ≡ c * 2 ^ n
-unfolding crcBits
-bits-small zero j c h l = sym (mul-one c)
-bits-small (suc n) j c h l =
-    ap crcBit (bits-small n j c h (omega arith))
-    ∙ bit-small (c * 2 ^ n) (lt-of-lt-of-le (shl-lt j n h) (pow-mono {j = 23} (omega arith)))
-    ∙ mul-assoc c (2 ^ n) 2
-    ∙ ap (λ (x : ℕ). c * x) (sym (pow-suc 2 n))
-
-pub byte-by-table : (c b : ℕ) → crcByte c b ≡ bitXor (crcBits 8 (bitXor b (c / 2 ^ 16) * 2 ^ 16)) (c % 2 ^ 16 * 2 ^ 8)
-unfolding crcByte
-byte-by-table c b =
-    ap (crcBits 8)
-    (ap (bitXor (b * 2 ^ 16)) (sym (split c 16) ∙ sym (xor-shifted (c / 2 ^ 16) 16 (c % 2 ^ 16) (mod-lt c (pow-pos 16))))
-    ∙ sym (xor-assoc (b * 2 ^ 16) (c / 2 ^ 16 * 2 ^ 16) (c % 2 ^ 16))
-    ∙ ap (λ (x : ℕ). bitXor x (c % 2 ^ 16)) (sym (xor-shl b (c / 2 ^ 16) 16)))
-    ∙ bits-linear 8 (bitXor b (c / 2 ^ 16) * 2 ^ 16) (c % 2 ^ 16)
-    ∙ ap (bitXor (crcBits 8 (bitXor b (c / 2 ^ 16) * 2 ^ 16))) (bits-small 8 16 (c % 2 ^ 16) (mod-lt c (pow-pos 16)) (omega arith))
+-- the checksum of A and B joined is that of A, continued over B
+pub crc-append : (s t : List ℕ) → crc (s ++ t) ≡ crcFrom (crc s) t
+unfolding crc
+crc-append s t = from-append s t 0
 
 -- one byte more, from a place of the list on
 pub from-more : (s : List ℕ) (i c : ℕ) → i < length s → crcFrom c (drop i s) ≡ crcFrom (crcByte c (getD s i 0)) (drop (i + 1) s)
@@ -114,18 +94,3 @@ from-more s i c h = rw (add-one, drop-cons s i 0)
 pub from-end : (s : List ℕ) (i c : ℕ) → length s ≤ i → crcFrom c (drop i s) ≡ c
 unfolding crcFrom
 from-end s i c h = rw (drop-of-length-le s h)
-
-pub index-lt : (c b : ℕ) → c < 2 ^ 24 → b < 2 ^ 8 → bitXor b (c / 2 ^ 16) < 2 ^ 8
-index-lt c b h l = xor-lt 8 b (c / 2 ^ 16) l (shr-lt 8 16 h)
-
--- three bytes more
-pub from-three : (s : List ℕ) (i c : ℕ) → i + 2 < length s
-    → crcFrom c (drop i s) ≡ crcFrom (crcByte (crcByte (crcByte c (getD s i 0)) (getD s (i + 1) 0)) (getD s (i + 2) 0)) (drop (i + 3) s)
-from-three s i c h =
-    let e1 : i + 1 + 1 ≡ i + 2 = omega arith in
-    let e2 : i + 2 + 1 ≡ i + 3 = omega arith in
-    from-more s i c (omega arith)
-    ∙ from-more s (i + 1) (crcByte c (getD s i 0)) (omega arith)
-    ∙ ap (λ (k : ℕ). crcFrom (crcByte (crcByte c (getD s i 0)) (getD s (i + 1) 0)) (drop k s)) e1
-    ∙ from-more s (i + 2) (crcByte (crcByte c (getD s i 0)) (getD s (i + 1) 0)) h
-    ∙ ap (λ (k : ℕ). crcFrom (crcByte (crcByte (crcByte c (getD s i 0)) (getD s (i + 1) 0)) (getD s (i + 2) 0)) (drop k s)) e2

@@ -1,9 +1,8 @@
 -- The worked examples of bit fields and of the checksum, computed from the definitions. Assumes nothing.
 use mathlib.Core.Path.{_≡_, refl}
-use mathlib.Core.Bool.{true, false}
+use mathlib.Core.Bool.{true}
 use mathlib.Core.List.{[], _∷_}
-use Prim.Native.Nat.{ℕ}
-use lib.IntN.{ℤ, pos, negsuc}
+use lib.IntN.{pos, negsuc}
 use Rattle.bits.specs.Told.{Accepted, range}
 use Rattle.bits.specs.Field.{field, reading, readBy, readUnsigned, readTwos, readSignmag, writeBy, writeTwos}
 use Rattle.bits.specs.Signed.{twosOf, signmagOf, fitsTwos}

@@ -1,11 +1,11 @@
 -- Laws of a field. Assumes nothing.
-use mathlib.Core.Path.{_≡_, refl, sym, ap, ap₂, subst, _∙_}
+use mathlib.Core.Path.{_≡_, sym, ap, ap₂, _∙_}
 use mathlib.Core.List.{List}
 use Prim.Native.Nat.{ℕ, zero, suc, _+_, _-_, _*_, _/_, _%_, _^_, _≤_, _<_}
 use native.Mathlib.Nat.{zero-lt-suc, mod-lt, pow-suc, lt-of-lt-of-le, add-zero, add-suc, add-assoc, add-mul, mul-assoc, mul-one, mod-one, div-one, mod-eq-of-lt}
 use native.Mathlib.Numerals.{add-one}
 use native.Mathlib.Omega.{arith}
-use lib.ListN.{length, getD}
+use lib.ListN.{getD}
 use lib.Arith.{digits-lt}
 use lib.Pow.{pow-mono, shr-shr, shl-shr, mod-pow-add, mod-mod-pow, shl-exact, field as pow-field, high as pow-high, low as pow-low}
 use Rattle.bits.specs.Field.{bitAt, field}
@@ -21,11 +21,6 @@ field-lt s p (suc w) = rw pow-suc (digits-lt (field-lt s p w) (bit-lt s (p + w))
 
 pub field-below : (s : List ℕ) (p w n : ℕ) → w ≤ n → field s p w < 2 ^ n
 field-below s p w n h = lt-of-lt-of-le (field-lt s p w) (pow-mono h)
-
--- one bit more
-pub field-more : (s : List ℕ) (p w : ℕ) → field s p (w + 1) ≡ field s p w * 2 + bitAt s (p + w)
-unfolding field
-field-more s p w = rw add-one
 
 -- a field is its first a bits and then its last b
 pub field-split : (s : List ℕ) (p a b : ℕ) → field s p (a + b) ≡ field s p a * 2 ^ b + field s (p + a) b

@@ -1,12 +1,12 @@
 -- Laws of runs of fields, over any run. Assumes nothing.
-use mathlib.Core.Path.{_≡_, refl, sym, ap, ap₂, subst, _∙_}
+use mathlib.Core.Path.{_≡_, refl, sym, ap, subst, _∙_}
 use mathlib.Core.Logic.{_⊎_, inl, inr}
 use mathlib.Core.List.{List, [], _∷_, _++_}
-use Prim.Native.Nat.{ℕ, _+_, _*_, _^_, _≤_, _<_}
+use Prim.Native.Nat.{ℕ, _+_, _*_, _≤_, _<_}
 use native.Mathlib.Nat.{add-zero, zero-add, add-assoc}
 use native.Mathlib.Omega.{arith}
 use lib.ListN.{length}
-use Rattle.bits.specs.Field.{bitAt, field, putField}
+use Rattle.bits.specs.Field.{bitAt, putField}
 use Rattle.bits.proofs.BitLaws.{length-put}
 use Rattle.bits.proofs.BitLaws.{put-outside, field-ext, read-back-fits}
 use Rattle.bits.proofs.SameBits.{bytes-put, put-same}

@@ -1,7 +1,7 @@
 -- A field of a part of the data is a field of the data. Assumes nothing.
 use mathlib.Core.Path.{_≡_, refl, sym, ap, ap₂, _∙_}
 use mathlib.Core.List.{List, _++_}
-use Prim.Native.Nat.{ℕ, zero, suc, _+_, _-_, _*_, _/_, _%_, _^_, _≤_, _<_}
+use Prim.Native.Nat.{ℕ, zero, suc, _+_, _-_, _*_, _/_, _%_, _^_, _≤_}
 use native.Mathlib.Nat.{add-assoc}
 use native.Mathlib.Omega.{arith}
 use lib.ListN.{length, getD, take, drop, List·getD-append}

@@ -8,7 +8,7 @@ use native.Mathlib.Omega.{arith}
 use lib.Dec.{ltb}
 use lib.ListN.{length}
 use borrow.Author.Tests.{lt-ltb, le-ltb}
-use Rattle.bits.specs.Told.{Told, Accepted, Refused, size, width, short, andThen}
+use Rattle.bits.specs.Told.{Told, Accepted, Refused, size, width, short}
 use Rattle.bits.specs.Field.{field, Reading, reading, readBy, readUnsigned}
 use Rattle.bits.specs.Steps.{groundOf}
 use Rattle.bits.specs.declared.field.Ground.{Ground}

@@ -1,9 +1,9 @@
 -- Lists of bytes with the same bits are the same; single bits of a field, read and written; a field written where it was read. Assumes nothing.
-use mathlib.Core.Path.{_≡_, refl, sym, ap, ap₂, _∙_}
-use mathlib.Core.Logic.{_⊎_, inl, inr}
+use mathlib.Core.Path.{_≡_, sym, ap, _∙_}
+use mathlib.Core.Logic.{inl, inr}
 use mathlib.Core.List.{List}
 use Prim.Native.Nat.{ℕ, zero, suc, _+_, _-_, _*_, _/_, _%_, _^_, _≤_, _<_}
-use native.Mathlib.Nat.{add-comm, mod-lt, zero-lt-suc, mod-eq-of-lt, div-one}
+use native.Mathlib.Nat.{add-comm, mod-lt, zero-lt-suc, div-one}
 use native.Mathlib.Decide.{decLt, ℕ-discrete}
 use native.Mathlib.Omega.{arith}
 use lib.ListN.{length, getD, set}
@@ -16,7 +16,7 @@ use Rattle.bits.specs.Fields.{Bytes}
 use Rattle.bits.specs.Steps.{splice}
 use Rattle.bits.proofs.BitLaws.{length-put}
 use Rattle.bits.proofs.SpliceLaws.{splice-lt}
-use Rattle.bits.proofs.BitLaws.{field-ext, put-outside, bit-set-same, bit-set-other, read-back-fits}
+use Rattle.bits.proofs.BitLaws.{field-ext, put-outside, read-back-fits}
 
 pub same-bits : (s t : List ℕ) → Bytes s → Bytes t → length s ≡ length t → ((i : ℕ) → i < length s * 8 → bitAt s i ≡ bitAt t i) → s ≡ t
 same-bits s t bs bt l e =

@@ -6,7 +6,7 @@ use Prim.Native.Nat.{ℕ, zero, suc, _+_, _-_, _*_, _/_, _%_, _^_, _≤_, _<_}
 use native.Mathlib.Nat.{zero-add, zero-mul, one-mul, mod-lt, mod-eq-of-lt, pow-suc, le-div-iff-mul-le, not-suc-le-zero}
 use native.Mathlib.Omega.{arith}
 use borrow.Author.Tests.{lt-ltb, le-ltb, ltb-true}
-use lib.IntN.{ℤ, pos, negsuc, natAbs, negℤ, subℕ, _-ℤ_, _+ℤ_}
+use lib.IntN.{ℤ, pos, negsuc, natAbs, negℤ, _-ℤ_}
 use lib.Pow.{pow-pos, pow-mono, split}
 use lib.Signed.{mag, ltZ, nonNeg}
 use mir.Syntax.{w64}

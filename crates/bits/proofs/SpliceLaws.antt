@@ -1,8 +1,8 @@
 -- Several bits of one byte at a time. Assumes nothing.
-use mathlib.Core.Path.{_≡_, refl, sym, ap, ap₂, subst, _∙_}
+use mathlib.Core.Path.{_≡_, sym, ap, ap₂, _∙_}
 use mathlib.Core.List.{List}
 use Prim.Native.Nat.{ℕ, zero, suc, _+_, _-_, _*_, _/_, _%_, _^_, _≤_, _<_}
-use native.Mathlib.Nat.{mod-lt, zero-lt-suc, add-comm, add-zero, zero-add, add-suc, suc-add, add-assoc, add-mul, mul-assoc, mul-comm, zero-mul, mod-one, div-one, pow-suc, mod-eq-of-lt, div-mul-le-self, lt-of-le-of-lt}
+use native.Mathlib.Nat.{mod-lt, add-comm, add-zero, zero-add, add-suc, add-assoc, add-mul, mul-assoc, mul-comm, zero-mul, mod-one, div-one, pow-suc, mod-eq-of-lt, div-mul-le-self}
 use native.Mathlib.Numerals.{add-one, one-add}
 use native.Mathlib.Omega.{arith}
 use lib.ListN.{length, getD, set}
@@ -11,7 +11,6 @@ use lib.Arith.{digits-lt}
 use lib.Pow.{pow-pos, pow-add, split, high, low, mod-pow-add, mod-mod-pow, shr-shr, shr-lt, shl-exact}
 use Rattle.bits.specs.Field.{withBit, setBit, putField}
 use Rattle.bits.specs.Steps.{splice}
-use Rattle.bits.proofs.BitLaws.{length-put}
 use Rattle.bits.proofs.FieldLaws.{part-digits}
 
 -- first k bits, then m

@@ -5,13 +5,12 @@ use mathlib.Core.List.{List, [], _∷_}
 use Prim.Native.Nat.{ℕ, _+_, _*_, _^_, _≤_, _<_}
 use native.Mathlib.Decide.{decLt}
 use native.Mathlib.Omega.{arith}
-use lib.Dec.{ltb}
 use lib.IntN.{ℤ}
 use lib.ListN.{length}
 use borrow.Author.Tests.{lt-ltb, le-ltb, ltb-true}
-use Rattle.bits.specs.Told.{Told, Accepted, Refused, size, width, range, room}
+use Rattle.bits.specs.Told.{Accepted, Refused, size, width, range, room}
 use Rattle.bits.specs.Signed.{twosOf, signmagOf, fitsUnsigned, fitsTwos, fitsSignmag, twosBits, signmagBits}
-use Rattle.bits.specs.Field.{field, putField, reading, readBy, readUnsigned, readTwos, readSignmag, Wrote, wrote, writeBy}
+use Rattle.bits.specs.Field.{putField, reading, readBy, readUnsigned, readTwos, readSignmag, Wrote, wrote, writeBy}
 use Rattle.bits.specs.Steps.{groundOf, placed}
 use Rattle.bits.specs.declared.field.Ground.{Ground}
 use Rattle.bits.specs.declared.field.Ground.the-variants.{Firm, Size, Width}

@@ -1,7 +1,7 @@
 -- Laws of exclusive or that `lib.Bits` lacks. Assumes nothing.
 use mathlib.Core.Path.{_≡_, refl, sym, ap, ap₂, _∙_}
-use Prim.Native.Nat.{ℕ, zero, suc, _+_, _*_, _/_, _%_, _^_, _≤_, _<_}
-use native.Mathlib.Nat.{le-of-suc-le-suc, not-suc-le-zero, zero-lt-suc, mod-lt, add-zero, zero-mul, one-mul}
+use Prim.Native.Nat.{ℕ, zero, suc, _+_, _*_, _/_, _%_, _^_, _<_}
+use native.Mathlib.Nat.{le-of-suc-le-suc, not-suc-le-zero, zero-lt-suc, mod-lt, add-zero, zero-mul}
 use lib.Arith.{bin-ind, digits-mod}
 use lib.Pow.{pow-pos}
 use lib.Bits.{bitXor, differ, xor-step, xor-shr, xor-block, xor-comm, xor-zero-r, xor-self}

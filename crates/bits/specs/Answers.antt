@@ -1,5 +1,4 @@
 -- What each answer of the code tells. Assumes nothing.
-use mathlib.Core.List.{[]}
 use Prim.Native.Nat.{ℕ}
 use lib.IntN.{ℤ}
 use Rattle.bits.specs.Told.{Told, Accepted, size, width, short, range, room}

@@ -14,12 +14,19 @@ fn main() {
 }
 
 fn checksums() {
-    checksum(b"checksum of 123456789 (catalogued as CRC-24/LTE-A): ", b"123456789");
+    checksum(
+        b"checksum of 123456789 (catalogued as CRC-24/LTE-A): ",
+        b"123456789",
+    );
     checksum(b"checksum of nothing: ", b"");
     checksum(b"checksum of D3: ", b"\xD3");
     checksum(b"checksum of D3 00 00: ", b"\xD3\x00\x00");
     text(b"checksum of 1234, continued over 56789: ");
-    io::print_hex(1, crc::crc24q_from(crc::crc24q(b"1234"), b"56789") as u64, 6);
+    io::print_hex(
+        1,
+        crc::crc24q_from(crc::crc24q(b"1234"), b"56789") as u64,
+        6,
+    );
     text(b"\n");
 }
 
@@ -38,7 +45,7 @@ fn standard_examples() {
 }
 
 fn text_message(bytes: &[u8]) {
-checksum(b"1029, checksum computed: ", part(bytes, 0, 42));
+    checksum(b"1029, checksum computed: ", part(bytes, 0, 42));
     unsigned(b"1029, checksum sent (EDA33B): ", bytes, 336, 24);
     unsigned(b"1029, message number: ", bytes, 24, 12);
     unsigned(b"1029, station: ", bytes, 36, 12);
@@ -82,7 +89,12 @@ fn readings() {
     twos(b"in two's complement: ", &ones, 3, 64);
     signmag(b"as sign and magnitude: ", &ones, 3, 64);
     let top = b"\x80\x00\x00\x00\x00\x00\x00\x00";
-    twos(b"64 bits, the top one set, in two's complement: ", top, 0, 64);
+    twos(
+        b"64 bits, the top one set, in two's complement: ",
+        top,
+        0,
+        64,
+    );
     signmag(b"as sign and magnitude (minus zero): ", top, 0, 64);
     signmag(b"one bit, set, as sign and magnitude: ", top, 0, 1);
 }
@@ -94,24 +106,47 @@ fn refusals() {
     unsigned(b"width 65: ", &large[0..1023], 0, 65);
     unsigned(b"the last bit of 1,023 bytes: ", &large[0..1023], 8183, 1);
     unsigned(b"one bit behind it: ", &large[0..1023], 8184, 1);
-    unsigned(b"start at the largest number: ", b"\x00", 0xFFFF_FFFF_FFFF_FFFF, 64);
+    unsigned(
+        b"start at the largest number: ",
+        b"\x00",
+        0xFFFF_FFFF_FFFF_FFFF,
+        64,
+    );
 }
 
 fn writings() {
     let mut area = [255u8, 0, 255];
-    told(b"A5A into 12 bits from bit 6 of FF 00 FF: ", field::write_unsigned(&mut area, 6, 12, 0xA5A));
+    told(
+        b"A5A into 12 bits from bit 6 of FF 00 FF: ",
+        field::write_unsigned(&mut area, 6, 12, 0xA5A),
+    );
     three(&area);
-    told(b"-8192 into 14 bits from bit 3: ", field::write_twos(&mut area, 3, 14, -8192));
+    told(
+        b"-8192 into 14 bits from bit 3: ",
+        field::write_twos(&mut area, 3, 14, -8192),
+    );
     three(&area);
     told(b"8191 there: ", field::write_twos(&mut area, 3, 14, 8191));
     three(&area);
     told(b"8192 there: ", field::write_twos(&mut area, 3, 14, 8192));
     told(b"10000 there: ", field::write_twos(&mut area, 3, 14, 10000));
-    told(b"-8192 there as sign and magnitude: ", field::write_signmag(&mut area, 3, 14, -8192));
-    told(b"-8191 there as sign and magnitude: ", field::write_signmag(&mut area, 3, 14, -8191));
+    told(
+        b"-8192 there as sign and magnitude: ",
+        field::write_signmag(&mut area, 3, 14, -8192),
+    );
+    told(
+        b"-8191 there as sign and magnitude: ",
+        field::write_signmag(&mut area, 3, 14, -8191),
+    );
     three(&area);
-    told(b"8192 behind the end: ", field::write_unsigned(&mut area, 24, 13, 8192));
-    told(b"8191 behind the end: ", field::write_unsigned(&mut area, 24, 13, 8191));
+    told(
+        b"8192 behind the end: ",
+        field::write_unsigned(&mut area, 24, 13, 8192),
+    );
+    told(
+        b"8191 behind the end: ",
+        field::write_unsigned(&mut area, 24, 13, 8191),
+    );
     three(&area);
 }
 

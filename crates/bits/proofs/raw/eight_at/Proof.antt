@@ -1,3 +1,4 @@
+-- Two fields of 32 bits side by side are one of 64. Assumes nothing.
 use Prim.Native.Nat.{_+_, _*_}
 use native.Mathlib.Omega.{arith}
 use Rattle.bits.proofs.FieldLaws.{field-join, field-below}

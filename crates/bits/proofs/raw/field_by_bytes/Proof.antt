@@ -1,10 +1,9 @@
-use lib.Pow.{pow-mono}
-use mathlib.Core.Path.{_≡_, refl, ap, ap₂, _∙_, sym}
-use Prim.Native.Nat.{ℕ, _+_, _*_, _/_, _%_, _≤_, _<_, _-_}
+-- The loop has read the first k bits; each turn adds what one byte has of the field. Assumes nothing.
+use mathlib.Core.Path.{_≡_, refl, ap, _∙_}
+use Prim.Native.Nat.{_≤_, _-_}
 use native.Mathlib.Omega.{arith}
-use lib.ListN.{length}
 use borrow.Author.Needs.{needs}
-use Rattle.bits.specs.Field.{bitAt, field}
+use Rattle.bits.specs.Field.{field}
 use Rattle.bits.proofs.FieldLaws.{field-below, chunk-step}
 use Rattle.bits.proofs.raw.field_by_bytes.Statement.{statement}
 use Rattle.bits.proofs.raw.field_by_bytes.Tie as tie

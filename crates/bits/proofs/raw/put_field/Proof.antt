@@ -1,14 +1,13 @@
+-- The loop has written the first k bits; each turn writes what one byte has of the field. Assumes nothing.
 use lib.ListN.{length-set}
-use mathlib.Core.Path.{_≡_, refl, ap, ap₂, _∙_, sym}
-use mathlib.Core.List.{List}
-use Prim.Native.Nat.{ℕ, _+_, _*_, _/_, _%_, _^_, _≤_, _<_, _-_}
+use mathlib.Core.Path.{_≡_, refl, ap, ap₂, _∙_}
+use Prim.Native.Nat.{ℕ, _+_, _/_, _%_, _^_, _≤_, _-_}
 use native.Mathlib.Nat.{mod-eq-of-lt, div-one}
 use native.Mathlib.Omega.{arith}
 use lib.ListN.{length, set, getD}
 use borrow.Author.Needs.{needs}
 use Rattle.bits.specs.Field.{putField}
 use Rattle.bits.specs.Steps.{splice}
-use Rattle.bits.proofs.BitLaws.{length-put}
 use Rattle.bits.proofs.SpliceLaws.{put-chunk}
 use Rattle.bits.proofs.raw.put_field.Statement.{statement}
 use Rattle.bits.proofs.raw.put_field.Tie as tie

@@ -1,4 +1,4 @@
-use mathlib.Core.Path.{_≡_}
+-- What is above the m bits, the bits of v, what is below; nothing overflows on the way. Assumes nothing.
 use Prim.Native.Nat.{_%_, _^_}
 use native.Mathlib.Nat.{mod-lt}
 use native.Mathlib.Omega.{arith}

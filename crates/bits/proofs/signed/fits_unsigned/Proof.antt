@@ -1,5 +1,6 @@
+-- Nothing is left above the low bits. Assumes nothing.
 use Prim.Native.Nat.{_^_}
-use mathlib.Core.Path.{_≡_, refl, ap, ap₂, _∙_, sym}
+use mathlib.Core.Path.{sym}
 use native.Mathlib.Omega.{arith}
 use borrow.Author.Tests.{lt-ltb, le-ltb}
 use Rattle.bits.proofs.SignedCode.{shr-zero, shr-some}

@@ -1,3 +1,4 @@
+-- The place value of the top bit, twice of which is the power of the width. Assumes nothing.
 use native.Mathlib.Omega.{arith}
 use Rattle.bits.proofs.SignedCode.{half-is}
 use borrow.Author.Needs.{needs}

@@ -1,7 +1,7 @@
+-- Each cast is of a number that is not below zero. Assumes nothing.
 use lib.Signed.{mag}
 use Rattle.bits.proofs.SignedCode.{to-unsigned, mag-small}
-use mathlib.Core.Path.{_≡_, refl, sym, ap, _∙_}
-use native.Mathlib.Omega.{arith}
+use mathlib.Core.Path.{ap}
 use lib.IntN.{natAbs}
 use Rattle.bits.proofs.SignedCode.{neg-cast, pos-cast}
 use Rattle.bits.proofs.signed.mag_of.Statement.{statement}
