@@ -1,0 +1,149 @@
+-- Laws of one frame: its parts as the code reads them, which case of the check holds, and what a good one tells. Assumes nothing.
+use mathlib.Core.Path.{_≡_, refl, sym, ap, ap₂, _∙_}
+use mathlib.Core.List.{List}
+use mathlib.Core.Option.{Option, none, some}
+use Prim.Native.Nat.{ℕ, _+_, _-_, _*_, _/_, _%_, _^_, _≤_, _<_}
+use native.Mathlib.Nat.{div-one}
+use native.Mathlib.Omega.{arith}
+use native.Mathlib.Decide.{decLt, ℕ-discrete}
+use lib.ListN.{length, getD, take}
+use lib.Pow.{high, low}
+use borrow.Author.Tests.{lt-ltb, le-ltb, eq-eqb, ne-eqb}
+use Rattle.bits.specs.Told.{Accepted, notValid, incomplete}
+use Rattle.bits.specs.Field.{field}
+use Rattle.bits.specs.Crc.{crc}
+use Rattle.bits.proofs.FieldLaws.{field-lt, field-split, field-byte}
+use Rattle.frames.specs.Frame.{dataLength, sentSum, ownSum, numberOf, Whole, wholeOf, check}
+
+-- ---- fields by bytes
+
+-- a byte is a field of eight bits
+pub byte-field : (s : List ℕ) (q i : ℕ) → q ≡ i * 8 → field s q 8 ≡ getD s i 0 % 2 ^ 8
+byte-field s q i e =
+    let a : q / 8 ≡ i = omega arith in
+    let b : 8 - q % 8 - 8 ≡ 0 = omega arith in
+    field-byte s q 8 (omega arith)
+    ∙ ap₂ (λ (x y : ℕ). getD s x 0 / 2 ^ y % 2 ^ 8) a b
+    ∙ ap (λ (x : ℕ). x % 2 ^ 8) (div-one (getD s i 0))
+
+-- three bytes, highest first, are a field of 24 bits
+pub three-field : (s : List ℕ) (i : ℕ)
+    → field s (i * 8) 24 ≡ (getD s i 0 % 2 ^ 8 * 2 ^ 8 + getD s (i + 1) 0 % 2 ^ 8) * 2 ^ 8 + getD s (i + 2) 0 % 2 ^ 8
+three-field s i =
+    field-split s (i * 8) 16 8
+    ∙ ap₂ (λ (x y : ℕ). x * 2 ^ 8 + y)
+    (field-split s (i * 8) 8 8 ∙ ap₂ (λ (x y : ℕ). x * 2 ^ 8 + y) (byte-field s (i * 8) i refl) (byte-field s (i * 8 + 8) (i + 1) (omega arith)))
+    (byte-field s (i * 8 + 16) (i + 2) (omega arith))
+
+-- the length is the low ten bits of the first three bytes
+pub length-low : (s : List ℕ) → field s 0 24 % 2 ^ 10 ≡ dataLength s
+length-low s = ap (λ (x : ℕ). x % 2 ^ 10) (field-split s 0 14 10) ∙ low (field s 0 14) 10 (field-lt s 14 10)
+
+-- the message number is the high twelve bits of the three bytes behind them
+pub number-high : (s : List ℕ) → field s 24 24 / 2 ^ 12 ≡ field s 24 12
+number-high s = ap (λ (x : ℕ). x / 2 ^ 12) (field-split s 24 12 12) ∙ high (field s 24 12) 12 (field-lt s 36 12)
+
+pub length-small : (s : List ℕ) → dataLength s ≤ 1023
+length-small s = omega (arith, field-lt s 14 10)
+
+-- frames that agree in the length, the number and the checksum of what they carry
+pub same-frame : {l n : ℕ} {p q : Option ℕ} {c d : ℕ} → l ≡ n → p ≡ q → c ≡ d
+    → _≡_ {A = Whole} (record { length = l + 6; carried = l; number = p; sum = c }) (record { length = n + 6; carried = n; number = q; sum = d })
+same-frame e f g = rw (e, f, g)
+
+-- ---- which case of the check holds
+
+module _ (s : List ℕ) where
+  pub too-few : length s < 6 → incomplete ≡ check s
+  unfolding check
+  too-few h = simp (lt-ltb _ _ h)
+
+  module _ (h : 6 ≤ length s) where
+    pub no-start : (getD s 0 0 ≡ 0xD3 → ⊥) → notValid ≡ check s
+    unfolding check
+    no-start n = simp (le-ltb _ _ h, ne-eqb _ _ n)
+
+    module _ (e : getD s 0 0 ≡ 0xD3) where
+      pub is-cut : length s < dataLength s + 6 → incomplete ≡ check s
+      unfolding check
+      is-cut l = simp (le-ltb _ _ h, eq-eqb _ _ e, lt-ltb _ _ l)
+
+      module _ (l : dataLength s + 6 ≤ length s) where
+        pub sums-differ : (ownSum s ≡ sentSum s → ⊥) → notValid ≡ check s
+        unfolding check
+        sums-differ q = simp (le-ltb _ _ h, eq-eqb _ _ e, le-ltb _ _ l, ne-eqb _ _ q)
+
+        pub sums-agree : ownSum s ≡ sentSum s → Accepted (wholeOf s) ≡ check s
+        unfolding check
+        sums-agree q = simp (le-ltb _ _ h, eq-eqb _ _ e, le-ltb _ _ l, eq-eqb _ _ q)
+
+-- the message number's two cases
+pub number-absent : (s : List ℕ) → dataLength s < 2 → none ≡ numberOf s
+number-absent s h = rw (lt-ltb _ _ h)
+
+pub number-is : (s : List ℕ) → 2 ≤ dataLength s → some (field s 24 12) ≡ numberOf s
+number-is s h = rw (le-ltb _ _ h)
+
+-- ---- the same, by what the code has in hand: the length n, the sum own that it took of the bytes and the sum sent that it read
+
+-- the first three bytes r give the length
+pub length-at : (s : List ℕ) (r : ℕ) → r ≡ field s 0 24 → r % 2 ^ 10 ≡ dataLength s
+length-at s r e = ap (λ (x : ℕ). x % 2 ^ 10) e ∙ length-low s
+
+module _ (s : List ℕ) (n : ℕ) (h : 6 ≤ length s) (e : getD s 0 0 ≡ 0xD3) (en : n ≡ dataLength s) where
+  pub cut-at : length s < n + 6 → incomplete ≡ check s
+  cut-at l = is-cut s h e (omega arith)
+
+  module _ (own sent : ℕ) (l : n + 6 ≤ length s) (eo : own ≡ crc (take (n + 3 - 0) s)) (es : sent ≡ field s ((n + 3) * 8) 24) where
+    own-is : ownSum s ≡ own
+    own-is = let k : dataLength s + 3 ≡ n + 3 - 0 = omega arith in ap (λ (m : ℕ). crc (take m s)) k ∙ sym eo
+
+    sent-is : sentSum s ≡ sent
+    sent-is = ap (λ (k : ℕ). field s ((k + 3) * 8) 24) (sym en) ∙ sym es
+
+    pub differ-at : (own ≡ sent → ⊥) → notValid ≡ check s
+    differ-at q = sums-differ s h e (omega arith) (λ p. q (sym own-is ∙ p ∙ sent-is))
+
+    pub agree-at : own ≡ sent → (m : Option ℕ) → m ≡ numberOf s
+        → Accepted (record { length = n + 6; carried = n; number = m; sum = sent }) ≡ check s
+    agree-at q m em = ap Accepted (same-frame en em (sym sent-is)) ∙ sums-agree s h e (omega arith) (own-is ∙ q ∙ sym sent-is)
+
+-- ---- what a good frame tells
+
+pub record Good (s : List ℕ) (w : Whole) : Type 0 where
+  pub whole : w ≡ wholeOf s
+  pub start : getD s 0 0 ≡ 0xD3
+  pub fits : dataLength s + 6 ≤ length s
+  pub sums : ownSum s ≡ sentSum s
+
+module _ (s : List ℕ) (w : Whole) (q : check s ≡ Accepted w) where
+  not-incomplete : incomplete ≡ check s → ⊥
+  not-incomplete p = let z : _≡_ {A = ℕ} 0 1 = cc in omega arith
+
+  not-invalid : notValid ≡ check s → ⊥
+  not-invalid p = let z : _≡_ {A = ℕ} 0 1 = cc in omega arith
+
+  same-whole : Accepted (wholeOf s) ≡ check s → w ≡ wholeOf s
+  same-whole p = cc
+
+  pub good-tells : Good s w
+  good-tells = few (decLt (length s) 6)
+    where
+      sums-of : 6 ≤ length s → getD s 0 0 ≡ 0xD3 → dataLength s + 6 ≤ length s → Dec (ownSum s ≡ sentSum s) → Good s w
+      sums-of h e l (yes c) = record { whole = same-whole (sums-agree s h e l c); start = e; fits = l; sums = c }
+      sums-of h e l (no c) = absurd (not-invalid (sums-differ s h e l c))
+
+      cut : 6 ≤ length s → getD s 0 0 ≡ 0xD3 → Dec (length s < dataLength s + 6) → Good s w
+      cut h e (yes l) = absurd (not-incomplete (is-cut s h e l))
+      cut h e (no l) = sums-of h e (omega arith) (ℕ-discrete (ownSum s) (sentSum s))
+
+      start-of : 6 ≤ length s → Dec (getD s 0 0 ≡ 0xD3) → Good s w
+      start-of h (yes e) = cut h e (decLt (length s) (dataLength s + 6))
+      start-of h (no e) = absurd (not-invalid (no-start s h e))
+
+      few : Dec (length s < 6) → Good s w
+      few (yes h) = absurd (not-incomplete (too-few s h))
+      few (no h) = start-of (omega arith) (ℕ-discrete (getD s 0 0) 0xD3)
+
+pub good-passes : (s : List ℕ) (w : Whole) → Good s w → check s ≡ Accepted w
+good-passes s w g = sym (ap Accepted (g .whole) ∙ sums-agree s (omega arith) (g .start) (g .fits) (g .sums))

@@ -1,0 +1,113 @@
+-- Each return is a case of the check's definition. Assumes nothing.
+use mathlib.Core.Path.{ap, _∙_}
+use mathlib.Core.Option.{none, some}
+use Prim.Native.Nat.{ℕ, _/_, _^_}
+use native.Mathlib.Omega.{arith}
+use borrow.Author.Needs.{needs}
+use Rattle.frames.proofs.FrameLaws.{too-few, no-start, length-at, cut-at, differ-at, agree-at, number-absent, number-is, number-high}
+use Rattle.frames.proofs.frame.check.Statement.{statement}
+use Rattle.frames.proofs.frame.check.Tie as tie
+
+returns : tie.Need-returns
+returns c = too-few _ (omega arith)
+
+shared-slice-read-if2 : tie.Need-shared-slice-read-if2
+shared-slice-read-if2 c = search needs
+
+returns-2 : tie.Need-returns-2
+returns-2 c = no-start _ (omega arith) (c .if2 .taken)
+
+three-at-requires : tie.Need-three-at-requires
+three-at-requires c κs = search needs
+
+cast-n : tie.Need-cast-n
+cast-n c = search needs
+
+add-if3 : tie.Need-add-if3
+add-if3 c = search needs
+
+returns-3 : tie.Need-returns-3
+returns-3 c =
+    let s = c .before .before .before .before .before .before .args .bytes .now in
+    cut-at s _ (omega arith) (c .before .before .if2 .left) (length-at s _ (c .before .three-at .ensures .0)) (omega arith)
+
+add-three-at : tie.Need-add-three-at
+add-three-at c = search needs
+
+three-at-requires-2 : tie.Need-three-at-requires-2
+three-at-requires-2 c κs = search needs
+
+add-crc24q : tie.Need-add-crc24q
+add-crc24q c = search needs
+
+sub-crc24q : tie.Need-sub-crc24q
+sub-crc24q c = search needs
+
+part-crc24q-start : tie.Need-part-crc24q-start
+part-crc24q-start c = search needs
+
+part-crc24q-end : tie.Need-part-crc24q-end
+part-crc24q-end c = search needs
+
+crc24q-requires : tie.Need-crc24q-requires
+crc24q-requires c κs = search needs
+
+returns-4 : tie.Need-returns-4
+returns-4 c =
+    let s = c .before .before .before .before .before .before .before .before .before .before .args .bytes .now in
+    differ-at s _ (omega arith) (c .before .before .before .before .before .before .if2 .left) (length-at s _ (c .before .before .before .before .before .three-at .ensures .0))
+    _ _ (omega arith) (c .before .crc24q .ensures) (c .before .before .before .three-at2 .ensures .0) (c .if4 .taken)
+
+add-t15 : tie.Need-add-t15
+add-t15 c = search needs
+
+returns-5 : tie.Need-returns-5
+returns-5 c =
+    let s = c .before .before .before .before .before .before .before .before .before .before .before .args .bytes .now in
+    let e = length-at s _ (c .before .before .before .before .before .before .three-at .ensures .0) in
+    agree-at s _ (omega arith) (c .before .before .before .before .before .before .before .if2 .left) e
+    _ _ (omega arith) (c .before .before .crc24q .ensures) (c .before .before .before .before .three-at2 .ensures .0) (c .before .if4 .left)
+    none (number-absent s (omega arith))
+
+three-at-requires-3 : tie.Need-three-at-requires-3
+three-at-requires-3 c κs = search needs
+
+cast-number : tie.Need-cast-number
+cast-number c = search needs
+
+add-t5 : tie.Need-add-t5
+add-t5 c = search needs
+
+returns-6 : tie.Need-returns-6
+returns-6 c =
+    let s = c .before .before .before .before .before .before .before .before .before .before .before .before .args .bytes .now in
+    let e = length-at s _ (c .before .before .before .before .before .before .before .three-at .ensures .0) in
+    agree-at s _ (omega arith) (c .before .before .before .before .before .before .before .before .if2 .left) e
+    _ _ (omega arith) (c .before .before .before .crc24q .ensures) (c .before .before .before .before .before .three-at2 .ensures .0) (c .before .before .if4 .left)
+    _ (ap some (ap (λ (x : ℕ). x / 2 ^ 12) (c .three-at3 .ensures .0) ∙ number-high s) ∙ number-is s (omega arith))
+
+pub check-spec : {M : Type 1} → statement M
+check-spec =
+    tie.close
+    (tie.spec
+    returns
+    shared-slice-read-if2
+    returns-2
+    three-at-requires
+    cast-n
+    add-if3
+    returns-3
+    add-three-at
+    three-at-requires-2
+    add-crc24q
+    sub-crc24q
+    part-crc24q-start
+    part-crc24q-end
+    crc24q-requires
+    returns-4
+    add-t15
+    returns-5
+    three-at-requires-3
+    cast-number
+    add-t5
+    returns-6)
