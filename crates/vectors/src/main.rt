@@ -9,6 +9,8 @@ fn main() {
     checksums();
     standard_examples();
     readings();
+    wide_readings();
+    top_bit_readings();
     refusals();
     writings();
 }
@@ -49,6 +51,10 @@ fn text_message(bytes: &[u8]) {
     unsigned(b"1029, checksum sent (EDA33B): ", bytes, 336, 24);
     unsigned(b"1029, message number: ", bytes, 24, 12);
     unsigned(b"1029, station: ", bytes, 36, 12);
+    text_fields(bytes);
+}
+
+fn text_fields(bytes: &[u8]) {
     unsigned(b"1029, modified Julian day: ", bytes, 48, 16);
     unsigned(b"1029, seconds of day: ", bytes, 64, 17);
     unsigned(b"1029, characters: ", bytes, 81, 7);
@@ -61,6 +67,10 @@ fn station(bytes: &[u8]) {
     unsigned(b"1005, message number: ", bytes, 392, 12);
     unsigned(b"1005, station: ", bytes, 404, 12);
     unsigned(b"1005, realization year: ", bytes, 416, 6);
+    position(bytes);
+}
+
+fn position(bytes: &[u8]) {
     twos(b"1005, X in 0.1 mm: ", bytes, 426, 38);
     twos(b"1005, Y in 0.1 mm: ", bytes, 466, 38);
     twos(b"1005, Z in 0.1 mm: ", bytes, 506, 38);
@@ -84,10 +94,16 @@ fn readings() {
     unsigned(b"F1, start 0, width 5: ", b"\xF1", 0, 5);
     twos(b"in two's complement: ", b"\xF1", 0, 5);
     signmag(b"as sign and magnitude: ", b"\xF1", 0, 5);
+}
+
+fn wide_readings() {
     let ones = [255u8; 9];
     unsigned(b"64 ones, start 3: ", &ones, 3, 64);
     twos(b"in two's complement: ", &ones, 3, 64);
     signmag(b"as sign and magnitude: ", &ones, 3, 64);
+}
+
+fn top_bit_readings() {
     let top = b"\x80\x00\x00\x00\x00\x00\x00\x00";
     twos(
         b"64 bits, the top one set, in two's complement: ",
@@ -116,38 +132,32 @@ fn refusals() {
 
 fn writings() {
     let mut area = [255u8, 0, 255];
-    told(
-        b"A5A into 12 bits from bit 6 of FF 00 FF: ",
-        field::write_unsigned(&mut area, 6, 12, 0xA5A),
-    );
+    told(b"A5A into 12 bits from bit 6 of FF 00 FF: ", field::write_unsigned(&mut area, 6, 12, 0xA5A));
     three(&area);
-    told(
-        b"-8192 into 14 bits from bit 3: ",
-        field::write_twos(&mut area, 3, 14, -8192),
-    );
-    three(&area);
-    told(b"8191 there: ", field::write_twos(&mut area, 3, 14, 8191));
-    three(&area);
-    told(b"8192 there: ", field::write_twos(&mut area, 3, 14, 8192));
-    told(b"10000 there: ", field::write_twos(&mut area, 3, 14, 10000));
-    told(
-        b"-8192 there as sign and magnitude: ",
-        field::write_signmag(&mut area, 3, 14, -8192),
-    );
-    told(
-        b"-8191 there as sign and magnitude: ",
-        field::write_signmag(&mut area, 3, 14, -8191),
-    );
-    three(&area);
-    told(
-        b"8192 behind the end: ",
-        field::write_unsigned(&mut area, 24, 13, 8192),
-    );
-    told(
-        b"8191 behind the end: ",
-        field::write_unsigned(&mut area, 24, 13, 8191),
-    );
-    three(&area);
+    in_two_s_complement(&mut area);
+    as_sign_and_magnitude(&mut area);
+    behind_the_end(&mut area);
+}
+
+fn in_two_s_complement(area: &mut [u8; 3]) {
+    told(b"-8192 into 14 bits from bit 3: ", field::write_twos(area, 3, 14, -8192));
+    three(area);
+    told(b"8191 there: ", field::write_twos(area, 3, 14, 8191));
+    three(area);
+    told(b"8192 there: ", field::write_twos(area, 3, 14, 8192));
+    told(b"10000 there: ", field::write_twos(area, 3, 14, 10000));
+}
+
+fn as_sign_and_magnitude(area: &mut [u8; 3]) {
+    told(b"-8192 there as sign and magnitude: ", field::write_signmag(area, 3, 14, -8192));
+    told(b"-8191 there as sign and magnitude: ", field::write_signmag(area, 3, 14, -8191));
+    three(area);
+}
+
+fn behind_the_end(area: &mut [u8; 3]) {
+    told(b"8192 behind the end: ", field::write_unsigned(area, 24, 13, 8192));
+    told(b"8191 behind the end: ", field::write_unsigned(area, 24, 13, 8191));
+    three(area);
 }
 
 // ---- printing
