@@ -132,7 +132,10 @@ fn refusals() {
 
 fn writings() {
     let mut area = [255u8, 0, 255];
-    told(b"A5A into 12 bits from bit 6 of FF 00 FF: ", field::write_unsigned(&mut area, 6, 12, 0xA5A));
+    told(
+        b"A5A into 12 bits from bit 6 of FF 00 FF: ",
+        field::write_unsigned(&mut area, 6, 12, 0xA5A),
+    );
     three(&area);
     in_two_s_complement(&mut area);
     as_sign_and_magnitude(&mut area);
@@ -140,7 +143,10 @@ fn writings() {
 }
 
 fn in_two_s_complement(area: &mut [u8; 3]) {
-    told(b"-8192 into 14 bits from bit 3: ", field::write_twos(area, 3, 14, -8192));
+    told(
+        b"-8192 into 14 bits from bit 3: ",
+        field::write_twos(area, 3, 14, -8192),
+    );
     three(area);
     told(b"8191 there: ", field::write_twos(area, 3, 14, 8191));
     three(area);
@@ -149,14 +155,26 @@ fn in_two_s_complement(area: &mut [u8; 3]) {
 }
 
 fn as_sign_and_magnitude(area: &mut [u8; 3]) {
-    told(b"-8192 there as sign and magnitude: ", field::write_signmag(area, 3, 14, -8192));
-    told(b"-8191 there as sign and magnitude: ", field::write_signmag(area, 3, 14, -8191));
+    told(
+        b"-8192 there as sign and magnitude: ",
+        field::write_signmag(area, 3, 14, -8192),
+    );
+    told(
+        b"-8191 there as sign and magnitude: ",
+        field::write_signmag(area, 3, 14, -8191),
+    );
     three(area);
 }
 
 fn behind_the_end(area: &mut [u8; 3]) {
-    told(b"8192 behind the end: ", field::write_unsigned(area, 24, 13, 8192));
-    told(b"8191 behind the end: ", field::write_unsigned(area, 24, 13, 8191));
+    told(
+        b"8192 behind the end: ",
+        field::write_unsigned(area, 24, 13, 8192),
+    );
+    told(
+        b"8191 behind the end: ",
+        field::write_unsigned(area, 24, 13, 8191),
+    );
     three(area);
 }
 
