@@ -1,0 +1,49 @@
+-- What an accepted answer tells of the steps that led to it. Assumes nothing.
+use mathlib.Core.Path.{_≡_, refl, sym, ap, _∙_}
+use mathlib.Core.Bool.{Bool, true, false, cond}
+use mathlib.Core.List.{List}
+use Prim.Native.Nat.{ℕ, _+_, _*_, _≤_}
+use native.Mathlib.Omega.{arith}
+use lib.ListN.{length}
+use Rattle.bits.specs.Told.{Told, Accepted, Refused, andThen}
+use Rattle.bits.specs.Field.{field, Reading, reading, readBy, Wrote, wrote}
+use Rattle.bits.proofs.ReadLaws.{reads-value, read-tells}
+use Rattle.messages.specs.Writer.{fine, unless}
+
+-- a step that was accepted came behind one that was
+pub then-accepted : {A B : Type 0} (t : Told A) (f : A → Told B) {b : B} → andThen t f ≡ Accepted b → (a : A) × (t ≡ Accepted a) × (f a ≡ Accepted b)
+then-accepted (Accepted a) f e = (a, refl, e)
+then-accepted (Refused n carried) f e = let z : _≡_ {A = ℕ} 0 1 = cc in absurd (omega arith)
+
+-- what could be refused here was not
+pub not-refused : {A : Type 0} (n : ℕ) (carried : List ℕ) (b : Bool) (t : Told A) {a : A} → cond b (Refused n carried) t ≡ Accepted a → (b ≡ false) × (t ≡ Accepted a)
+not-refused n carried true t e = let z : _≡_ {A = ℕ} 0 1 = cc in absurd (omega arith)
+not-refused n carried false t e = (refl, e)
+
+module _ {A B : Type 0} (meaning : ℕ → A) (s : List ℕ) (p w : ℕ) (f : Reading A → Told B) where
+  -- a field was read, and what came behind it was accepted
+  pub record FieldThen (b : B) : Type 0 where
+    pub few : length s ≤ 1023
+    pub within : p + w ≤ length s * 8
+    pub then : f (reading (meaning (field s p w)) (p + w)) ≡ Accepted b
+
+  pub field-accepted : {b : B} → andThen (readBy meaning s p w) f ≡ Accepted b → FieldThen b
+  field-accepted e =
+      let r = then-accepted (readBy meaning s p w) f e in
+      let t = read-tells meaning s p w (r .1) in
+      record { few = t .few; within = t .within; then = ap f (sym (t .is)) ∙ r .2 }
+
+  -- a field that is there is read
+  pub field-then : length s ≤ 1023 → 1 ≤ w → w ≤ 64 → p + w ≤ length s * 8 → andThen (readBy meaning s p w) f ≡ f (reading (meaning (field s p w)) (p + w))
+  field-then few low high h = rw (reads-value meaning s p w few low high h)
+
+-- a call that writes was accepted: it was not refused here, and accepted further on
+module _ (s : List ℕ) where
+  pub cond-accepted : (n : ℕ) (carried : List ℕ) (b : Bool) (w : Wrote) {q : ℕ} → cond b (wrote (Refused n carried) s) w .answer ≡ Accepted q
+      → (b ≡ false) × (w .answer ≡ Accepted q)
+  cond-accepted n carried true w e = let z : _≡_ {A = ℕ} 0 1 = cc in absurd (omega arith)
+  cond-accepted n carried false w e = (refl, e)
+
+  pub unless-accepted : (t : Told Unit) (w : Wrote) {q : ℕ} → unless s t w .answer ≡ Accepted q → (t ≡ fine) × (w .answer ≡ Accepted q)
+  unless-accepted (Accepted u) w e = (refl, e)
+  unless-accepted (Refused n carried) w e = let z : _≡_ {A = ℕ} 0 1 = cc in absurd (omega arith)

@@ -1,0 +1,22 @@
+-- The marked examples hold, computed from the definitions. Assumes nothing.
+use mathlib.Core.Path.{refl}
+use Rattle.bits.specs.Signed.{twosOf, signmagOf}
+use Rattle.bits.specs.Field.{field, readBy, withBit, setBit, putField, writeBy}
+use Rattle.bits.specs.Fields.{total, putAll}
+use Rattle.bits.specs.Crc.{crcBit, crcBits, crcByte, crcFrom, crc}
+use Rattle.frames.specs.Frame.{check}
+use Rattle.frames.specs.Rtcm.{rtcm}
+use Rattle.frames.specs.Call.{feedOf}
+use Rattle.messages.specs.Every.{Every}
+use Rattle.messages.specs.Records.{records1059, records1230}
+use Rattle.messages.specs.Signals.{signalOf}
+use Rattle.messages.specs.Signals1059.{edition1, signals1059, isSignal1059}
+use Rattle.messages.specs.Writer.{firstFault, putRun}
+use Rattle.messages.specs.Write1059.{fault1059, ofSatellite, crowded, present, biasFields, satelliteFields, satellitesFrom, fields1059, writeRecords1059, write1059}
+use Rattle.messages.specs.Write1230.{isIn, fault1230, firstRepeat, ofSignal, maskOf, biasFields16, inMaskOrder, fields1230, writeRecords1230, write1230}
+use Rattle.messages.specs.MarkedExamples.{Given, examples}
+
+pub marked : Every Given examples
+unfolding twosOf signmagOf field readBy withBit setBit putField writeBy total putAll crcBit crcBits crcByte crcFrom crc check rtcm feedOf records1059 records1230 signalOf edition1 signals1059 isSignal1059 firstFault putRun fault1059 ofSatellite crowded present biasFields satelliteFields satellitesFrom fields1059 writeRecords1059 write1059 isIn fault1230 firstRepeat ofSignal maskOf biasFields16 inMaskOrder fields1230 writeRecords1230 write1230
+marked =
+    (refl, (refl, (refl, (refl, (refl, (refl, (refl, ((refl, refl, refl), (refl, ((refl, refl, refl), (refl, (refl, (refl, (refl, (refl, (refl, tt))))))))))))))))

@@ -1,0 +1,71 @@
+-- What is written into the bias block of message 1230 reads back in the order of the mask. Assumes nothing.
+use mathlib.Core.Path.{_≡_, sym, ap, subst, _∙_}
+use mathlib.Core.Bool.{true}
+use mathlib.Core.List.{List, [], _∷_, map}
+use Prim.Native.Nat.{ℕ, suc, _+_, _*_, _%_, _^_, _≤_}
+use native.Mathlib.Nat.{mod-eq-of-lt}
+use native.Mathlib.Omega.{arith}
+use lib.ListN.{length, getD}
+use lib.IntN.{ℤ, pos}
+use Rattle.bits.specs.Told.{Accepted}
+use Rattle.bits.specs.Field.{field, reading, Wrote, wrote}
+use Rattle.bits.specs.Signed.{fitsTwos}
+use Rattle.bits.specs.Fields.{total, putAll, Holds, Fit}
+use Rattle.bits.proofs.FieldsLaws.{put-all-holds, length-put-all}
+use Rattle.bits.proofs.SignedLaws.{twos-bits-lt}
+use Rattle.messages.specs.Every.{Every}
+use Rattle.messages.specs.Records.{Rec1230, rec1230, biasOf1230, records1230}
+use Rattle.messages.specs.Raw1230.{Raw1230}
+use Rattle.messages.specs.Block1230.{maskSignals, biasesAt, block1230}
+use Rattle.messages.specs.Write1230.{ofSignal, maskOf, biasFields16, inMaskOrder, fields1230, write1230}
+use Rattle.messages.specs.InOrder.{inOrder1230}
+use Rattle.messages.proofs.AcceptLaws.{field-then}
+use Rattle.messages.proofs.Biases1230.{Fits, biases-read}
+use Rattle.messages.proofs.MaskOrderLaws.{mask-lt, order-signals, order-biases, order-fits}
+use Rattle.messages.proofs.RepeatLaws.{once}
+use Rattle.messages.proofs.Accepts1230.{records-written, records-accepted, call-written, call-accepted}
+
+raw-fits : (gs : List ℕ) (zs : List ℤ) → ((i : ℕ) → fitsTwos 16 (getD zs i (pos 0)) ≡ true) → Every Fits (records1230 gs zs)
+unfolding records1230
+raw-fits [] zs f = tt
+raw-fits (g ∷ gs) [] f = tt
+raw-fits (g ∷ gs) (z ∷ zs) f = (f 0, raw-fits gs zs (λ i. f (suc i)))
+
+fit-biases : (rs : List Rec1230) → Every Fits rs → Fit (biasFields16 (map biasOf1230 rs))
+unfolding biasFields16 Fit
+fit-biases [] f = tt
+fit-biases (rec1230 g z ∷ rs) f = (twos-bits-lt 16 (omega arith) z (f .0), fit-biases rs (f .1))
+
+module _ (rs : List Rec1230) (fits : Every Fits rs) where
+  fields-fit : Fit (fields1230 rs)
+  unfolding fields1230 Fit
+  fields-fit = (mask-lt rs maskSignals, rw (order-biases rs maskSignals) (fit-biases (inOrder1230 rs) (order-fits rs maskSignals fits)))
+
+  block-reads : (t : List ℕ) (p : ℕ) → length t ≤ 1023 → ((g : ℕ) → length (ofSignal g rs) ≤ 1) → Holds t p (fields1230 rs) → p + total (fields1230 rs) ≤ length t * 8
+      → block1230 t p ≡ Accepted (reading (inOrder1230 rs) (p + total (fields1230 rs)))
+  unfolding block1230 fields1230 Holds total
+  block-reads t p few one h l =
+      let ys = inOrder1230 rs in
+      let o = order-biases rs maskSignals in
+      let m : field t p 4 % 2 ^ 4 ≡ maskOf maskSignals rs = ap (λ (x : ℕ). x % 2 ^ 4) (h .0) ∙ mod-eq-of-lt (mask-lt rs maskSignals) in
+      let n : p + 4 + total (biasFields16 (map biasOf1230 ys)) ≡ p + (4 + total (inMaskOrder maskSignals rs)) = omega (arith, ap total o) in
+      field-then (λ v. v) t p 4 _ few (omega arith) (omega arith) (omega arith)
+      ∙ ap (λ (gs : List ℕ). biasesAt t gs (p + 4)) (sym (order-signals rs one maskSignals (field t p 4) m))
+      ∙ biases-read t few ys (p + 4) (order-fits rs maskSignals fits) (subst (Holds t (p + 4)) o (h .1)) (omega arith)
+      ∙ ap (λ (k : ℕ). Accepted (reading ys k)) n
+
+pub reads-back-1230 : (s : List ℕ) (p : ℕ) (gs : List ℕ) (zs : List ℤ) {q : ℕ} → Raw1230 zs → write1230 s p gs zs .answer ≡ Accepted q
+    → block1230 (write1230 s p gs zs .bytes) p ≡ Accepted (reading (inOrder1230 (records1230 gs zs)) q)
+reads-back-1230 s p gs zs {q} raw h =
+    let c = call-accepted s p gs zs h in
+    let rs = records1230 gs zs in
+    let f = raw-fits gs zs (raw .fits) in
+    let w = records-accepted s p rs (c .1) in
+    let fs = fields1230 rs in
+    let t = putAll s p fs in
+    let i : write1230 s p gs zs ≡ wrote (Accepted (p + total fs)) t = call-written s p gs zs (c .0) ∙ records-written s p rs w in
+    let end : p + total fs ≡ q = cc (ap (λ (x : Wrote). x .answer) i) in
+    let len : length t ≡ length s = length-put-all s p fs in
+    ap (λ (x : Wrote). block1230 (x .bytes) p) i
+    ∙ block-reads rs f t p (omega (arith, c .0 .few)) (λ g. once g 0 [] rs (w .single)) (put-all-holds s p fs (w .within) (fields-fit rs f)) (omega (arith, w .within))
+    ∙ ap (λ (k : ℕ). Accepted (reading (inOrder1230 rs) k)) end

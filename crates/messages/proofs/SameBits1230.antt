@@ -1,0 +1,79 @@
+-- Every bias block of message 1230 that was read is written back to the same bits. Assumes nothing.
+use mathlib.Core.Path.{_≡_, refl, sym, ap, ap₂, subst, _∙_}
+use mathlib.Core.Bool.{true, false}
+use mathlib.Core.List.{List, [], _∷_, map}
+use Prim.Native.Nat.{ℕ, _+_, _*_, _%_, _^_, _≤_}
+use native.Mathlib.Nat.{mod-eq-of-lt}
+use native.Mathlib.Omega.{arith}
+use lib.ListN.{length, length-map}
+use Rattle.bits.specs.Told.{Accepted}
+use Rattle.bits.specs.Field.{field, reading, wrote}
+use Rattle.bits.specs.Fields.{Field, bits, total, Holds, Bytes}
+use Rattle.bits.proofs.FieldLaws.{field-lt}
+use Rattle.bits.proofs.FieldsLaws.{put-all-same}
+use Rattle.messages.specs.Every.{Every}
+use Rattle.messages.specs.Records.{Rec1230, rec1230, signalOf1230, biasOf1230, records1230}
+use Rattle.messages.specs.Block1230.{maskSignals, masked, block1230}
+use Rattle.messages.specs.Write1230.{isIn, biasFields16, fields1230, writeRecords1230, write1230}
+use Rattle.messages.proofs.AcceptLaws.{field-accepted}
+use Rattle.messages.proofs.Biases1230.{biases-stand}
+use Rattle.messages.proofs.MaskedLaws.{Different, every-masked, masked-different, named}
+use Rattle.messages.proofs.SufficeLaws.{suffices-1230}
+use Rattle.messages.proofs.RepeatLaws.{no-repeat}
+use Rattle.messages.proofs.Accepts1230.{Known, Writes, known-fine, records-written, call-written}
+
+-- the columns of records are records again
+pub columns1230 : (rs : List Rec1230) → records1230 (map signalOf1230 rs) (map biasOf1230 rs) ≡ rs
+unfolding records1230
+columns1230 [] = refl
+columns1230 (rec1230 g z ∷ rs) = ap (λ (l : List Rec1230). rec1230 g z ∷ l) (columns1230 rs)
+
+different : Different maskSignals
+different = omega arith
+
+in-mask : Every (λ g. isIn g maskSignals ≡ true) maskSignals
+unfolding isIn
+in-mask = (refl, (refl, (refl, (refl, tt))))
+
+every-unmap : (P : ℕ → Type 0) (rs : List Rec1230) → Every P (map signalOf1230 rs) → Every (λ r. P (signalOf1230 r)) rs
+every-unmap P [] e = tt
+every-unmap P (r ∷ rs) e = (e .0, every-unmap P rs (e .1))
+
+every-true : {A : Type 0} (P : A → Type 0) → ((x : A) → P x) → (xs : List A) → Every P xs
+every-true P f [] = tt
+every-true P f (x ∷ xs) = (f x, every-true P f xs)
+
+none-seen : (g : ℕ) → isIn g [] ≡ false
+unfolding isIn
+none-seen g = refl
+
+pub written-back-1230 : (s : List ℕ) (p : ℕ) {q : ℕ} (rs : List Rec1230) → block1230 s p ≡ Accepted (reading rs q) → Bytes s
+    → write1230 s p (map signalOf1230 rs) (map biasOf1230 rs) ≡ wrote (Accepted q) s
+unfolding block1230 fields1230 Holds total
+written-back-1230 s p {q} rs h bytes =
+    let a = field-accepted (λ v. v) s p 4 _ h in
+    let m = field s p 4 in
+    let b = biases-stand s (masked maskSignals m) (p + 4) q rs (a .then) in
+    let n = named maskSignals m rs different (b .signals) in
+    let low : m % 2 ^ 4 ≡ m = mod-eq-of-lt (field-lt s p 4) in
+    let f : fields1230 rs ≡ bits 4 m ∷ biasFields16 (map biasOf1230 rs) = ap₂ (λ (x : ℕ) (fs : List Field). bits 4 x ∷ fs) (n .mask ∙ low) (n .order) in
+    let end : p + total (fields1230 rs) ≡ q = ap (λ (fs : List Field). p + total fs) f ∙ omega (arith, b .ends) in
+    let in-data : p + total (fields1230 rs) ≤ length s * 8 = omega (arith, b .within (a .within)) in
+    let stands : Holds s p (fields1230 rs) = subst (Holds s p) (sym f) (refl, b .holds) in
+    let unlike : Different (map signalOf1230 rs) = rw (b .signals) (masked-different m maskSignals different) in
+    let known : Every Known rs = every-unmap (λ g. isIn g maskSignals ≡ true) rs (rw (b .signals) (every-masked m (λ g. isIn g maskSignals ≡ true) maskSignals in-mask)) in
+    let w : Writes s p rs =
+    record {
+      clean = known-fine 0 rs known;
+      single = no-repeat 0 [] rs (every-true (λ g. isIn g [] ≡ false) none-seen (map signalOf1230 rs)) unlike;
+      within = in-data;
+    } in
+    call-written s p (map signalOf1230 rs) (map biasOf1230 rs)
+    (record {
+      few = a .few;
+      biases = length-map rs signalOf1230 ∙ sym (length-map rs biasOf1230);
+      most = omega (arith, length-map rs signalOf1230, suffices-1230 s p rs h);
+    })
+    ∙ ap (writeRecords1230 s p) (columns1230 rs)
+    ∙ records-written s p rs w
+    ∙ ap₂ wrote (ap Accepted end) (put-all-same s p (fields1230 rs) in-data bytes stands)

@@ -1,0 +1,61 @@
+-- Reading the bias block of message 1059. Assumes nothing.
+use mathlib.Core.Bool.{cond, not}
+use mathlib.Core.List.{List, [], _∷_, map}
+use Prim.Native.Nat.{ℕ}
+use lib.ListN.{length}
+use lib.IntN.{ℤ}
+use lib.Dec.{eqb, ltb}
+use Rattle.bits.specs.Told.{Told, Accepted, Refused, andThen, size}
+use Rattle.bits.specs.Field.{Reading, reading, readUnsigned, readTwos}
+use Rattle.bits.specs.Onto.{onto}
+use Rattle.messages.specs.Reader.{many, roomFor}
+use Rattle.messages.specs.Records.{Rec1059, rec1059, satelliteOf, signalOf1059, biasOf1059, Counted, counted}
+
+-- one bias of satellite a: signal (5 bits), bias (14, two's complement); a reserved signal is kept as its number
+unfoldable pub biasAt : List ℕ → ℕ → ℕ → Told (Reading (List Rec1059))
+biasAt s a p =
+    andThen (readUnsigned s p 5) (λ g.
+    andThen (readTwos s (g .next) 14) (λ z.
+    Accepted (reading (rec1059 a (g .value) (z .value) ∷ []) (z .next))))
+
+-- one satellite: its number (6), its bias count (5), its biases
+unfoldable pub satelliteAt : List ℕ → ℕ → Told (Reading (List Rec1059))
+satelliteAt s p =
+    andThen (readUnsigned s p 6) (λ a.
+    andThen (readUnsigned s (a .next) 5) (λ n.
+    many (biasAt s (a .value)) (n .value) (n .next)))
+
+-- the block: satellite count (6), the satellites
+unfoldable pub block1059 : List ℕ → ℕ → Told (Reading (List Rec1059))
+block1059 s p = andThen (readUnsigned s p 6) (λ n. many (satelliteAt s) (n .value) (n .next))
+
+-- what a call answers, and the lent lists as it leaves them
+pub record Read1059 : Type 0 where
+  pub answer : Told Counted
+  pub satellites : List ℕ
+  pub signals : List ℕ
+  pub biases : List ℤ
+
+abbrev pub outcome1059 : Told Counted → List ℕ → List ℕ → List ℤ → Read1059
+outcome1059 a sats gs zs = record { answer = a; satellites = sats; signals = gs; biases = zs }
+
+-- a refusal leaves the lists as they came; else their first places hold the records, and later places stay
+abbrev pub left1059 : List ℕ → List ℕ → List ℤ → Told (Reading (List Rec1059)) → Read1059
+left1059 sats gs zs (Accepted r) =
+    record {
+      answer = Accepted (counted (length (r .value)) (r .next));
+      satellites = onto (map satelliteOf (r .value)) sats;
+      signals = onto (map signalOf1059 (r .value)) gs;
+      biases = onto (map biasOf1059 (r .value)) zs;
+    }
+left1059 sats gs zs (Refused n carried) =
+    record { answer = Refused n carried; satellites = sats; signals = gs; biases = zs }
+
+-- a call that reads the block from bit p on into the lent lists: Size of the data, Size of unequal lists, Short, Room
+unfoldable pub read1059 : List ℕ → ℕ → List ℕ → List ℕ → List ℤ → Read1059
+read1059 s p sats gs zs =
+    left1059 sats gs zs
+    (cond (ltb 1023 (length s)) size
+    (cond (not (eqb (length sats) (length gs))) size
+    (cond (not (eqb (length sats) (length zs))) size
+    (andThen (block1059 s p) (roomFor (length sats))))))

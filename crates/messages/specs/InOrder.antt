@@ -1,0 +1,25 @@
+-- The order in which the records of a list are written. Assumes nothing.
+use mathlib.Core.List.{List, [], _∷_, _++_, map}
+use Prim.Native.Nat.{ℕ, zero, suc}
+use Rattle.messages.specs.Records.{Rec1059, Rec1230, rec1230}
+use Rattle.messages.specs.Block1230.{maskSignals}
+use Rattle.messages.specs.Write1059.{ofSatellite}
+use Rattle.messages.specs.Write1230.{ofSignal}
+
+-- the records of the n satellites from a on, ascending, those of each in list order
+unfoldable pub recordsFrom : ℕ → ℕ → List Rec1059 → List Rec1059
+recordsFrom a zero rs = []
+recordsFrom a (suc n) rs = ofSatellite a rs ++ recordsFrom (suc a) n rs
+
+-- the satellites from 0 to 63
+abbrev pub inOrder1059 : List Rec1059 → List Rec1059
+inOrder1059 rs = recordsFrom 0 64 rs
+
+-- the records of each signal of gs, in the order of gs
+unfoldable pub recordsBy : List ℕ → List Rec1230 → List Rec1230
+recordsBy [] rs = []
+recordsBy (g ∷ gs) rs = map (rec1230 g) (ofSignal g rs) ++ recordsBy gs rs
+
+-- the order of the mask
+abbrev pub inOrder1230 : List Rec1230 → List Rec1230
+inOrder1230 rs = recordsBy maskSignals rs

@@ -1,0 +1,79 @@
+-- Writing the bias block of message 1059. Assumes nothing.
+use mathlib.Core.Bool.{cond, not}
+use mathlib.Core.List.{List, [], _∷_, _++_}
+use Prim.Native.Nat.{ℕ, zero, suc, _+_}
+use lib.ListN.{length}
+use lib.IntN.{ℤ}
+use lib.Dec.{eqb, ltb}
+use Rattle.bits.specs.Told.{Told, size, satellite, signal, range, tooMany}
+use Rattle.bits.specs.Signed.{fitsTwos, twosBits}
+use Rattle.bits.specs.Field.{Wrote, wrote}
+use Rattle.bits.specs.Fields.{Field, bits}
+use Rattle.messages.specs.Signals1059.{isSignal1059}
+use Rattle.messages.specs.Writer.{fine, keep, firstFault, unless, putRun}
+use Rattle.messages.specs.Records.{Rec1059, rec1059, records1059}
+
+-- ---- refusals
+
+-- record i: satellite above 63; signal not of the edition; bias that does not fit 14 bits
+unfoldable pub fault1059 : ℕ → ℕ → Rec1059 → Told Unit
+fault1059 edition i (rec1059 a g z) =
+    cond (ltb 63 a) (satellite i)
+    (cond (not (isSignal1059 edition g)) (signal i)
+    (cond (not (fitsTwos 14 z)) (range i)
+    fine))
+
+-- the records of satellite a, in list order
+unfoldable pub ofSatellite : ℕ → List Rec1059 → List Rec1059
+ofSatellite a [] = []
+ofSatellite a (rec1059 b g z ∷ rs) = keep (eqb b a) (rec1059 b g z) (ofSatellite a rs)
+
+-- the lowest of the n satellites from a on that has over 31 biases
+unfoldable pub crowded : ℕ → ℕ → List Rec1059 → Told Unit
+crowded a zero rs = fine
+crowded a (suc n) rs = cond (ltb 31 (length (ofSatellite a rs))) (tooMany a) (crowded (suc a) n rs)
+
+-- how many of the n satellites from a on have a bias
+unfoldable pub present : ℕ → ℕ → List Rec1059 → ℕ
+present a zero rs = 0
+present a (suc n) rs = cond (eqb (length (ofSatellite a rs)) 0) 0 1 + present (suc a) n rs
+
+-- ---- the fields of a block
+
+-- signal (5) and bias (14) of each record
+unfoldable pub biasFields : List Rec1059 → List Field
+biasFields [] = []
+biasFields (rec1059 a g z ∷ rs) = bits 5 g ∷ bits 14 (twosBits 14 z) ∷ biasFields rs
+
+-- satellite a with its records: number (6), bias count (5), the biases; nothing where it has none
+unfoldable pub satelliteFields : ℕ → List Rec1059 → List Field
+satelliteFields a [] = []
+satelliteFields a (r ∷ rs) = bits 6 a ∷ bits 5 (length (r ∷ rs)) ∷ biasFields (r ∷ rs)
+
+-- the n satellites from a on, ascending, the records of each in list order
+unfoldable pub satellitesFrom : ℕ → ℕ → List Rec1059 → List Field
+satellitesFrom a zero rs = []
+satellitesFrom a (suc n) rs = satelliteFields a (ofSatellite a rs) ++ satellitesFrom (suc a) n rs
+
+-- satellite count (6), the satellites
+unfoldable pub fields1059 : List Rec1059 → List Field
+fields1059 rs = bits 6 (present 0 64 rs) ∷ satellitesFrom 0 64 rs
+
+-- ---- the call
+
+-- records written from bit p on: the first fault, TooMany of one satellite, TooMany of all, Room
+unfoldable pub writeRecords1059 : ℕ → List ℕ → ℕ → List Rec1059 → Wrote
+writeRecords1059 edition s p rs =
+    unless s (firstFault (fault1059 edition) 0 rs)
+    (unless s (crowded 0 64 rs)
+    (unless s (cond (eqb (present 0 64 rs) 64) (tooMany 64) fine)
+    (putRun s p (fields1059 rs))))
+
+-- a call with lists of the parts: Size of the data, of unequal lists, of over 1,953 records; then the records
+unfoldable pub write1059 : ℕ → List ℕ → ℕ → List ℕ → List ℕ → List ℤ → Wrote
+write1059 edition s p sats gs zs =
+    cond (ltb 1023 (length s)) (wrote size s)
+    (cond (not (eqb (length sats) (length gs))) (wrote size s)
+    (cond (not (eqb (length sats) (length zs))) (wrote size s)
+    (cond (ltb 1953 (length sats)) (wrote size s)
+    (writeRecords1059 edition s p (records1059 sats gs zs)))))

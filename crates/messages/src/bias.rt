@@ -1,0 +1,25 @@
+// Raw biases: two kinds that cannot be mixed, each with its length in metres.
+ghost use mathlib.Core.Path.{_≡_};
+ghost use Rattle.messages.specs.Metres.{metres1059, metres1230};
+
+// A bias of message 1059, in 0.01 m.
+pub struct Bias1059(pub i16);
+
+// A bias of message 1230, in 0.02 m.
+pub struct Bias1230(pub i16);
+
+impl Bias1059 {
+    pub fn metres(self) -> f32
+        ensures { λ r. ⌜ r ≡ metres1059 (self .0) ⌝ }
+    {
+        (self.0 as f32) * 0.01f32
+    }
+}
+
+impl Bias1230 {
+    pub fn metres(self) -> f32
+        ensures { λ r. ⌜ r ≡ metres1230 (self .0) ⌝ }
+    {
+        (self.0 as f32) * 0.02f32
+    }
+}
