@@ -1,5 +1,5 @@
 -- Laws of a field. Assumes nothing.
-use mathlib.Core.Path.{_≡_, sym, ap, ap₂, _∙_}
+use mathlib.Core.Path.{_≡_, refl, sym, ap, ap₂, _∙_}
 use mathlib.Core.List.{List}
 use Prim.Native.Nat.{ℕ, zero, suc, _+_, _-_, _*_, _/_, _%_, _^_, _≤_, _<_}
 use native.Mathlib.Nat.{zero-lt-suc, mod-lt, pow-suc, lt-of-lt-of-le, add-zero, add-suc, add-assoc, add-mul, mul-assoc, mul-one, mod-one, div-one, mod-eq-of-lt}
@@ -7,7 +7,8 @@ use native.Mathlib.Numerals.{add-one}
 use native.Mathlib.Omega.{arith}
 use lib.ListN.{getD}
 use lib.Arith.{digits-lt}
-use lib.Pow.{pow-mono, shr-shr, shl-shr, mod-pow-add, mod-mod-pow, shl-exact, field as pow-field, high as pow-high, low as pow-low}
+use lib.Bits.{bitOr, or-block, or-shifted}
+use lib.Pow.{pow-pos, pow-add, pow-mono, shr-shr, shl-shr, mod-pow-add, mod-mod-pow, shl-exact, field as pow-field, high as pow-high, low as pow-low}
 use Rattle.bits.specs.Field.{bitAt, field}
 
 pub bit-lt : (s : List ℕ) (i : ℕ) → bitAt s i < 2
@@ -95,10 +96,55 @@ field-whole s i h =
     ∙ ap (λ (x : ℕ). x % 2 ^ 8) (div-one (getD s i 0))
     ∙ mod-eq-of-lt h
 
--- two fields of n bits side by side, as the code joins them: it fits, and is the field of both
-pub field-join : (s : List ℕ) (p q n a b : ℕ) → a ≡ field s p n → b ≡ field s q n → q ≡ p + n
-    → (a * 2 ^ n < 2 ^ (n + n)) × (a * 2 ^ n + b < 2 ^ (n + n)) × (a * 2 ^ n + b ≡ field s p (n + n))
-field-join s p q n a b ea eb eq =
-    let e : a * 2 ^ n + b ≡ field s p (n + n) = ap₂ (λ (x y : ℕ). x * 2 ^ n + y) ea (eb ∙ ap (λ (x : ℕ). field s x n) eq) ∙ sym (field-split s p n n) in
-    let l : field s p (n + n) < 2 ^ (n + n) = field-lt s p (n + n) in
-    (omega arith, omega arith, e)
+-- ---- bytes put together from the highest on
+
+-- a byte that is put below
+or-next : (f b j : ℕ) → b < 2 ^ 8 → bitOr (f * 2 ^ (8 + j)) (b * 2 ^ j) ≡ (f * 2 ^ 8 + b) * 2 ^ j
+or-next f b j h =
+    ap₂ bitOr
+    (ap (λ (n : ℕ). f * n) (pow-add 2 8 j) ∙ sym (mul-assoc f (2 ^ 8) (2 ^ j)) ∙ sym (add-zero (f * 2 ^ 8 * 2 ^ j)))
+    (sym (add-zero (b * 2 ^ j)))
+    ∙ or-block j (f * 2 ^ 8) b 0 0 (pow-pos j) (pow-pos j)
+    ∙ add-zero (bitOr (f * 2 ^ 8) b * 2 ^ j)
+    ∙ ap (λ (n : ℕ). n * 2 ^ j) (or-shifted f 8 b h)
+
+-- the first byte, at the top of 64 bits
+first-byte : (s : List ℕ) (i x : ℕ) → x ≡ getD s i 0 → x < 256 → x * 2 ^ 56 % 2 ^ 64 ≡ field s (i * 8) 8 * 2 ^ 56
+first-byte s i x e h =
+    shl-exact 8 56 64 h (omega arith) ∙ ap (λ (n : ℕ). n * 2 ^ 56) (e ∙ sym (field-whole s i (rw (sym e) h)))
+
+-- the byte behind w bits, with j bits below it
+next-byte : (s : List ℕ) (i m w j acc x : ℕ) → w ≡ m * 8 → w + 8 + j ≡ 64 → x ≡ getD s (i + m) 0 → x < 256
+    → acc ≡ field s (i * 8) w * 2 ^ (8 + j) → bitOr acc (x * 2 ^ j % 2 ^ 64) ≡ field s (i * 8) (w + 8) * 2 ^ j
+next-byte s i m w j acc x ew ej ex h ea =
+    let p : (i + m) * 8 ≡ i * 8 + w = omega arith in
+    ap₂ bitOr ea (shl-exact 8 j 64 h (omega arith))
+    ∙ or-next (field s (i * 8) w) x j h
+    ∙ ap (λ (n : ℕ). (field s (i * 8) w * 2 ^ 8 + n) * 2 ^ j)
+    (ex ∙ sym (field-whole s (i + m) (rw (sym ex) h)) ∙ ap (λ (n : ℕ). field s n 8) p)
+    ∙ ap (λ (n : ℕ). n * 2 ^ j) (sym (field-split s (i * 8) w 8))
+
+-- the last byte
+last-byte : (s : List ℕ) (i acc x : ℕ) → x ≡ getD s (i + 7) 0 → x < 256 → acc ≡ field s (i * 8) 56 * 2 ^ 8 → bitOr acc x ≡ field s (i * 8) 64
+last-byte s i acc x ex h ea =
+    let e : x ≡ x * 2 ^ 0 % 2 ^ 64 = sym (ap (λ (n : ℕ). n % 2 ^ 64) (mul-one x) ∙ mod-eq-of-lt (omega arith)) in
+    ap (bitOr acc) e ∙ next-byte s i 7 56 0 acc x refl refl ex h ea ∙ mul-one (field s (i * 8) 64)
+
+-- a number that is byte i of s
+abbrev pub IsByte : List ℕ → ℕ → ℕ → Type 0
+IsByte s i x = (x ≡ getD s i 0) × (x < 256)
+
+-- eight bytes, as 64-bit code puts them together
+pub eight-bytes : (s : List ℕ) (i a b c d e f g h : ℕ)
+    → IsByte s i a → IsByte s (i + 1) b → IsByte s (i + 2) c → IsByte s (i + 3) d → IsByte s (i + 4) e → IsByte s (i + 5) f → IsByte s (i + 6) g → IsByte s (i + 7) h
+    → bitOr (bitOr (bitOr (bitOr (bitOr (bitOr (bitOr (a * 2 ^ 56 % 2 ^ 64) (b * 2 ^ 48 % 2 ^ 64)) (c * 2 ^ 40 % 2 ^ 64)) (d * 2 ^ 32 % 2 ^ 64)) (e * 2 ^ 24 % 2 ^ 64)) (f * 2 ^ 16 % 2 ^ 64)) (g * 2 ^ 8 % 2 ^ 64)) h
+    ≡ field s (i * 8) 64
+eight-bytes s i a b c d e f g h ia ib ic id ie if ig ih =
+    last-byte s i _ h (ih .0) (ih .1)
+    (next-byte s i 6 48 8 _ g refl refl (ig .0) (ig .1)
+    (next-byte s i 5 40 16 _ f refl refl (if .0) (if .1)
+    (next-byte s i 4 32 24 _ e refl refl (ie .0) (ie .1)
+    (next-byte s i 3 24 32 _ d refl refl (id .0) (id .1)
+    (next-byte s i 2 16 40 _ c refl refl (ic .0) (ic .1)
+    (next-byte s i 1 8 48 _ b refl refl (ib .0) (ib .1)
+    (first-byte s i a (ia .0) (ia .1))))))))

@@ -65,26 +65,19 @@ fn spliced(x: u64, m: usize, j: usize, v: u64) -> u64
     ((x >> t) << t) + (part << j) + (x - ((x >> j) << j))
 }
 
-// Two, four and eight bytes from byte i on, highest first.
-fn two_at(bytes: &[u8], i: usize) -> u64
-    requires { ⌜ i + 2 ≤ length (now bytes) ⌝ }
-    ensures { λ r. ⌜ r ≡ field (now (bytes .entry)) (i * 8) 16 ⌝ }
-{
-    wide(bytes[i]) * 256 + wide(bytes[i + 1])
-}
-
-fn four_at(bytes: &[u8], i: usize) -> u64
-    requires { ⌜ i + 4 ≤ length (now bytes) ⌝ }
-    ensures { λ r. ⌜ r ≡ field (now (bytes .entry)) (i * 8) 32 ⌝ }
-{
-    two_at(bytes, i) * 0x1_0000 + two_at(bytes, i + 2)
-}
-
+// Eight bytes from byte i on, highest first. In this form it is one load.
 fn eight_at(bytes: &[u8], i: usize) -> u64
     requires { ⌜ i + 8 ≤ length (now bytes) ⌝ }
     ensures { λ r. ⌜ r ≡ field (now (bytes .entry)) (i * 8) 64 ⌝ }
 {
-    four_at(bytes, i) * 0x1_0000_0000 + four_at(bytes, i + 4)
+    (wide(bytes[i]) << 56)
+        | (wide(bytes[i + 1]) << 48)
+        | (wide(bytes[i + 2]) << 40)
+        | (wide(bytes[i + 3]) << 32)
+        | (wide(bytes[i + 4]) << 24)
+        | (wide(bytes[i + 5]) << 16)
+        | (wide(bytes[i + 6]) << 8)
+        | wide(bytes[i + 7])
 }
 
 fn least(a: usize, b: usize) -> usize
@@ -94,7 +87,7 @@ fn least(a: usize, b: usize) -> usize
 }
 
 fn wide(x: u8) -> u64
-    ensures { λ r. ⌜ r ≡ x ⌝ }
+    ensures { λ r. ⌜ (r ≡ x) × (r < 256) ⌝ }
 {
     x as u64
 }

@@ -1,36 +1,115 @@
--- Two fields of 32 bits side by side are one of 64. Assumes nothing.
-use Prim.Native.Nat.{_+_, _*_}
-use native.Mathlib.Omega.{arith}
-use Rattle.bits.proofs.FieldLaws.{field-join, field-below}
+-- Eight bytes put together are a field of 64 bits. Assumes nothing.
 use borrow.Author.Needs.{needs}
+use Rattle.bits.proofs.FieldLaws.{eight-bytes}
 use Rattle.bits.proofs.raw.eight_at.Statement.{statement}
 use Rattle.bits.proofs.raw.eight_at.Tie as tie
 
-four-at-requires : tie.Need-four-at-requires
-four-at-requires c κs = search needs
+shared-slice-read-wide : tie.Need-shared-slice-read-wide
+shared-slice-read-wide c = search needs
 
-mul-result : tie.Need-mul-result
-mul-result c =
-    let a = c .before .before .args in
-    omega (arith, field-below (a .bytes .now) (a .i * 8) 32 32 (omega arith))
+wide-requires : tie.Need-wide-requires
+wide-requires c κs = search needs
 
-add-four-at : tie.Need-add-four-at
-add-four-at c = search needs
+add-wide : tie.Need-add-wide
+add-wide c = search needs
 
-four-at-requires-2 : tie.Need-four-at-requires-2
-four-at-requires-2 c κs = search needs
+shared-slice-read-wide-2 : tie.Need-shared-slice-read-wide-2
+shared-slice-read-wide-2 c = search needs
 
-add-result : tie.Need-add-result
-add-result c =
-    let a = c .before .before .before .args in
-    omega (arith, field-join (a .bytes .now) (a .i * 8) ((a .i + 4) * 8) 32 _ _ (c .before .four-at .ensures) (c .four-at2 .ensures) (omega arith) .1)
+wide-requires-2 : tie.Need-wide-requires-2
+wide-requires-2 c κs = search needs
+
+add-wide-2 : tie.Need-add-wide-2
+add-wide-2 c = search needs
+
+shared-slice-read-wide-3 : tie.Need-shared-slice-read-wide-3
+shared-slice-read-wide-3 c = search needs
+
+wide-requires-3 : tie.Need-wide-requires-3
+wide-requires-3 c κs = search needs
+
+add-wide-3 : tie.Need-add-wide-3
+add-wide-3 c = search needs
+
+shared-slice-read-wide-4 : tie.Need-shared-slice-read-wide-4
+shared-slice-read-wide-4 c = search needs
+
+wide-requires-4 : tie.Need-wide-requires-4
+wide-requires-4 c κs = search needs
+
+add-wide-4 : tie.Need-add-wide-4
+add-wide-4 c = search needs
+
+shared-slice-read-wide-5 : tie.Need-shared-slice-read-wide-5
+shared-slice-read-wide-5 c = search needs
+
+wide-requires-5 : tie.Need-wide-requires-5
+wide-requires-5 c κs = search needs
+
+add-wide-5 : tie.Need-add-wide-5
+add-wide-5 c = search needs
+
+shared-slice-read-wide-6 : tie.Need-shared-slice-read-wide-6
+shared-slice-read-wide-6 c = search needs
+
+wide-requires-6 : tie.Need-wide-requires-6
+wide-requires-6 c κs = search needs
+
+add-wide-6 : tie.Need-add-wide-6
+add-wide-6 c = search needs
+
+shared-slice-read-wide-7 : tie.Need-shared-slice-read-wide-7
+shared-slice-read-wide-7 c = search needs
+
+wide-requires-7 : tie.Need-wide-requires-7
+wide-requires-7 c κs = search needs
+
+add-wide-7 : tie.Need-add-wide-7
+add-wide-7 c = search needs
+
+shared-slice-read-wide-8 : tie.Need-shared-slice-read-wide-8
+shared-slice-read-wide-8 c = search needs
+
+wide-requires-8 : tie.Need-wide-requires-8
+wide-requires-8 c κs = search needs
 
 returns : tie.Need-returns
 returns c =
-    let a = c .before .before .before .args in
-    field-join (a .bytes .now) (a .i * 8) ((a .i + 4) * 8) 32 _ _ (c .before .four-at .ensures) (c .four-at2 .ensures) (omega arith) .2
+    eight-bytes _ _ _ _ _ _ _ _ _ _
+    (c .before .before .before .before .before .before .before .before .before .before .before .before .before .before .wide .ensures)
+    (c .before .before .before .before .before .before .before .before .before .before .before .before .wide2 .ensures)
+    (c .before .before .before .before .before .before .before .before .before .before .wide3 .ensures)
+    (c .before .before .before .before .before .before .before .before .wide4 .ensures)
+    (c .before .before .before .before .before .before .wide5 .ensures)
+    (c .before .before .before .before .wide6 .ensures)
+    (c .before .before .wide7 .ensures)
+    (c .wide8 .ensures)
 
 pub eight-at-spec : {M : Type 1} → statement M
 eight-at-spec =
     tie.close
-    (tie.spec four-at-requires mul-result add-four-at four-at-requires-2 add-result returns)
+    (tie.spec
+    shared-slice-read-wide
+    wide-requires
+    add-wide
+    shared-slice-read-wide-2
+    wide-requires-2
+    add-wide-2
+    shared-slice-read-wide-3
+    wide-requires-3
+    add-wide-3
+    shared-slice-read-wide-4
+    wide-requires-4
+    add-wide-4
+    shared-slice-read-wide-5
+    wide-requires-5
+    add-wide-5
+    shared-slice-read-wide-6
+    wide-requires-6
+    add-wide-6
+    shared-slice-read-wide-7
+    wide-requires-7
+    add-wide-7
+    shared-slice-read-wide-8
+    wide-requires-8
+    returns)

@@ -52,7 +52,7 @@ add-v : tie.Need-add-v Inv-loop μ-loop
 add-v c =
     let l = c .before .before .before .before .loop in
     let a = c .before .before .before .before .before .before .args in
-    let e = chunk-step (a .bytes .now) (a .start) (l .k) (c .before .before .least .result) (l .v) (c .wide .result) (l .inv .1) (c .wide .ensures) (omega arith) (omega arith) in
+    let e = chunk-step (a .bytes .now) (a .start) (l .k) (c .before .before .least .result) (l .v) (c .wide .result) (l .inv .1) (c .wide .ensures .0) (omega arith) (omega arith) in
     record { fits = rw e (field-below _ _ _ 64 (omega arith)) }
 
 add-k : tie.Need-add-k Inv-loop μ-loop
@@ -66,7 +66,7 @@ loop-again c =
     let l = c .before .before .before .before .loop in
     let a = c .before .before .before .before .before .before .args in (
       omega arith,
-      chunk-step (a .bytes .now) (a .start) (l .k) (c .before .before .least .result) (l .v) (c .wide .result) (l .inv .1) (c .wide .ensures) (omega arith) (omega arith),
+      chunk-step (a .bytes .now) (a .start) (l .k) (c .before .before .least .result) (l .v) (c .wide .result) (l .inv .1) (c .wide .ensures .0) (omega arith) (omega arith),
     )
 
 returns : tie.Need-returns Inv-loop μ-loop

@@ -81,7 +81,7 @@ loop-again c =
     let i = (a .start + l .k) / 8 in
     let j = 8 - (a .start + l .k) % 8 - m in
     let y : c .spliced .result % 256 ≡ splice (getD (l .bytes) i 0) m j (a .number / 2 ^ (a .width - l .k - m) % 2 ^ m) =
-    mod-eq-of-lt (c .spliced .ensures .1) ∙ c .spliced .ensures .0 ∙ ap (λ (x : ℕ). splice x m j (a .number / 2 ^ (a .width - l .k - m) % 2 ^ m)) (c .before .wide .ensures) in (
+    mod-eq-of-lt (c .spliced .ensures .1) ∙ c .spliced .ensures .0 ∙ ap (λ (x : ℕ). splice x m j (a .number / 2 ^ (a .width - l .k - m) % 2 ^ m)) (c .before .wide .ensures .0) in (
       omega arith,
       ap (set (l .bytes) i) y ∙ put-chunk (a .bytes .now) (l .bytes) (a .start) (l .k) m (a .number) (a .width) (l .inv .1) (omega arith) (omega arith) (omega arith),
       length-set (l .bytes) i (c .spliced .result % 256) ∙ l .inv .2,
