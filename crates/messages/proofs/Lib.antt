@@ -29,3 +29,17 @@ pub mod SameBits1230
 pub mod SufficeLaws
 pub mod KeepLaws
 pub mod MarkedExamples
+pub mod PassLaws
+pub mod RunLaws
+pub mod ArmLaws
+pub mod Laws1059
+pub mod PutLaws
+pub mod BiasLaws
+pub mod StoreLaws
+pub mod CallLaws
+pub mod Read1059Laws
+pub mod Laws1230
+pub mod Read1230Laws
+pub mod ExtentLaws
+pub mod RefusalLaws
+pub mod ToldLaws

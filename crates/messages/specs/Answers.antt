@@ -9,6 +9,10 @@ use Rattle.messages.specs.declared.signals.NumberFound.{NumberFound}
 use Rattle.messages.specs.declared.signals.NumberFound.the-variants as N
 use Rattle.messages.specs.declared.signals.Order.{Order}
 use Rattle.messages.specs.declared.signals.Order.the-variants as O
+use Rattle.bits.specs.Told.{Told, Accepted, size, short, room}
+use Rattle.messages.specs.Records.{Counted, counted}
+use Rattle.messages.specs.declared.answer.BlockRead.{BlockRead}
+use Rattle.messages.specs.declared.answer.BlockRead.the-variants as R
 
 -- a signal, or none
 abbrev pub foundSignal : SignalFound → Found Signal
@@ -25,3 +29,9 @@ abbrev pub toldOrder : Order → ℤ
 toldOrder O.Less = less
 toldOrder O.Equal = equal
 toldOrder O.Greater = greater
+
+abbrev pub toldRead : BlockRead → Told Counted
+toldRead (R.Records n q) = Accepted (counted n q)
+toldRead R.Size = size
+toldRead (R.Short p) = short p
+toldRead (R.Room n) = room n

@@ -16,4 +16,5 @@ pub mod Satellites1059
 pub mod Raw1230
 pub mod MarkedExamples
 pub mod Answers
+pub mod ReadSteps
 pub mod Columns

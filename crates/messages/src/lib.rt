@@ -1,6 +1,9 @@
-// Signal tables, and the two kinds of raw bias.
+// Signal tables, the two kinds of raw bias, and the bias blocks of messages 1059 and 1230.
 //
-// `specs/` says what each function answers: read it first.
+// `specs/` says what each function answers: read it first. A refused call writes nothing.
+pub mod answer;
 pub mod bias;
+pub mod block1059;
+pub mod block1230;
 pub mod signals;
 pub mod signals1059;

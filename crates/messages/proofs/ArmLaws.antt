@@ -1,0 +1,76 @@
+-- What the two arms of a `let .. else` tell of a field, and the other arm of a pass. Assumes nothing.
+use mathlib.Core.Path.{_≡_, refl, sym, ap, _∙_}
+use mathlib.Core.Logic.{⊎-elim}
+use mathlib.Core.List.{List, [], _∷_}
+use Prim.Native.Nat.{ℕ, _+_, _*_, _^_, _≤_, _<_}
+use native.Mathlib.Omega.{arith}
+use lib.ListN.{length}
+use types.Run.{OneOf}
+use denote.Enum.Declared.{tagOf}
+use Rattle.bits.specs.Told.{Told, Accepted, Refused, short}
+use Rattle.bits.specs.Field.{Reading, reading, readUnsigned, readTwos, readBy}
+use Rattle.bits.specs.Signed.{twosOf}
+use Rattle.bits.specs.Answers.{toldUnsigned, toldSigned}
+use Rattle.bits.specs.declared.field.Unsigned.{Unsigned}
+use Rattle.bits.specs.declared.field.Unsigned.the-variants as U
+use Rattle.bits.specs.declared.field.Signed.{Signed}
+use Rattle.bits.specs.declared.field.Signed.the-variants as S
+use Rattle.bits.proofs.field.Unsigned.{the-type as unsigned-type}
+use Rattle.bits.proofs.field.Signed.{the-type as signed-type}
+use Rattle.bits.proofs.ReadLaws.{refused-short, read-tells, value-tells}
+use Rattle.messages.specs.Answers.{toldRead}
+use Rattle.messages.specs.declared.answer.BlockRead.{BlockRead}
+use Rattle.messages.specs.declared.answer.BlockRead.the-variants as R
+use Rattle.messages.proofs.answer.BlockRead.{the-type as read-type}
+
+-- ---- the value
+
+pub value-within : (s : List ℕ) (p w : ℕ) {v q : ℕ} → readUnsigned s p w ≡ Accepted (reading v q) → (v < 2 ^ w) × (q ≡ p + w) × (q ≤ length s * 8)
+value-within s p w {v} {q} e =
+    let t = read-tells (λ x. x) s p w e in
+    let d : q ≡ p + w = ap (λ (r : Reading ℕ). r .next) (t .is) in
+    (value-tells s p w (sym e) .2, d, omega arith)
+
+-- ---- a refusal
+
+-- refused, with some number
+pub record IsRefused {A : Type 0} (t : Told A) : Type 0 where
+  pub number : ℕ
+  pub carried : List ℕ
+  pub is : t ≡ Refused number carried
+
+pub short-refused : {A : Type 0} (p : ℕ) → IsRefused {A = A} (short p)
+short-refused p = record { number = 1; carried = p ∷ []; is = refl }
+
+-- of four variants it is none but the first
+other : {n : ℕ} → OneOf (1 ∷ 2 ∷ 3 ∷ []) n → n ≡ 0 → ⊥
+other o e = ⊎-elim (λ p. omega arith) (λ q. ⊎-elim (λ p. omega arith) (λ p. omega arith) q) o
+
+unsigned-refused : (r : Unsigned) → OneOf (1 ∷ 2 ∷ 3 ∷ []) (tagOf unsigned-type r) → IsRefused (toldUnsigned r)
+unsigned-refused (U.Value v q) o = absurd (other o refl)
+unsigned-refused U.Size o = record { number = 9; carried = []; is = refl }
+unsigned-refused U.Width o = record { number = 2; carried = []; is = refl }
+unsigned-refused (U.Short p) o = record { number = 1; carried = p ∷ []; is = refl }
+
+signed-refused : (r : Signed) → OneOf (1 ∷ 2 ∷ 3 ∷ []) (tagOf signed-type r) → IsRefused (toldSigned r)
+signed-refused (S.Value v q) o = absurd (other o refl)
+signed-refused S.Size o = record { number = 9; carried = []; is = refl }
+signed-refused S.Width o = record { number = 2; carried = []; is = refl }
+signed-refused (S.Short p) o = record { number = 1; carried = p ∷ []; is = refl }
+
+pub read-refused : (r : BlockRead) → OneOf (1 ∷ 2 ∷ 3 ∷ []) (tagOf read-type r) → IsRefused (toldRead r)
+read-refused (R.Records n q) o = absurd (other o refl)
+read-refused R.Size o = record { number = 9; carried = []; is = refl }
+read-refused (R.Short p) o = record { number = 1; carried = p ∷ []; is = refl }
+read-refused (R.Room n) o = record { number = 8; carried = n ∷ []; is = refl }
+
+-- a field that is refused where the data and the width are within their limits is cut short
+module _ (s : List ℕ) (p w : ℕ) (few : length s ≤ 1023) (low : 1 ≤ w) (high : w ≤ 64) where
+  refused-cut : {A : Type 0} (meaning : ℕ → A) {t : Told (Reading A)} → IsRefused t → t ≡ readBy meaning s p w → readBy meaning s p w ≡ short p
+  refused-cut meaning r e = refused-short meaning s p w few low high (sym e ∙ r .is)
+
+  pub unsigned-cut : (r : Unsigned) → toldUnsigned r ≡ readUnsigned s p w → OneOf (1 ∷ 2 ∷ 3 ∷ []) (tagOf unsigned-type r) → readUnsigned s p w ≡ short p
+  unsigned-cut r e o = refused-cut (λ v. v) (unsigned-refused r o) e
+
+  pub twos-cut : (r : Signed) → toldSigned r ≡ readTwos s p w → OneOf (1 ∷ 2 ∷ 3 ∷ []) (tagOf signed-type r) → readTwos s p w ≡ short p
+  twos-cut r e o = refused-cut (twosOf w) (signed-refused r o) e

@@ -1,0 +1,108 @@
+-- What the reading of a block refuses: of data within their limit nothing but Short, and of lists that always suffice nothing by Room. Assumes nothing.
+use mathlib.Core.Path.{_≡_, refl, sym, _∙_}
+use mathlib.Core.Bool.{Bool, true, false, cond, not}
+use mathlib.Core.List.{List, [], _∷_}
+use Prim.Native.Nat.{ℕ, zero, suc, _≤_}
+use native.Mathlib.Omega.{arith}
+use borrow.Author.Tests.{ltb-false, le-ltb}
+use lib.Dec.{eqb, ltb}
+use lib.IntN.{ℤ}
+use lib.ListN.{length}
+use Rattle.bits.specs.Told.{Told, Accepted, Refused, size, room, andThen}
+use Rattle.bits.specs.Field.{Reading, readBy, readUnsigned, readTwos}
+use Rattle.bits.specs.Signed.{twosOf}
+use Rattle.bits.proofs.ReadLaws.{refused-short}
+use Rattle.messages.specs.Reader.{many, roomFor}
+use Rattle.messages.specs.Records.{Rec1059, Rec1230}
+use Rattle.messages.specs.Block1059.{biasAt, satelliteAt, block1059, left1059, read1059}
+use Rattle.messages.specs.Block1230.{maskSignals, masked, biasesAt, block1230, left1230, read1230}
+use Rattle.messages.proofs.ExtentLaws.{enough1059, block1230-extends}
+
+-- ---- Short alone
+
+-- t refuses nothing but Short
+pub record ShortAlone {A : Type 0} (t : Told A) : Type 0 where
+  pub number : {n : ℕ} {carried : List ℕ} → t ≡ Refused n carried → n ≡ 1
+
+accepts : {A : Type 0} (a : A) → ShortAlone (Accepted a)
+accepts a = record { number = λ {n} {carried} e. let z : _≡_ {A = ℕ} 0 1 = cc in absurd (omega arith) }
+
+both : {A B : Type 0} (t : Told A) (f : A → Told B) → ShortAlone t → ((a : A) → ShortAlone (f a)) → ShortAlone (andThen t f)
+both (Accepted a) f o h = h a
+both (Refused n carried) f o h = record { number = λ {n = m} {carried = c} e. let d : n ≡ m = cc in sym d ∙ o .number refl }
+
+each : {A : Type 0} (f : ℕ → Told (Reading (List A))) → ((p : ℕ) → ShortAlone (f p)) → (n p : ℕ) → ShortAlone (many f n p)
+unfolding many
+each f h zero p = accepts _
+each f h (suc n) p = both (f p) _ (h p) (λ xs. both (many f n (xs .next)) _ (each f h n (xs .next)) (λ ys. accepts _))
+
+module _ (s : List ℕ) (few : length s ≤ 1023) where
+  of-field : {A : Type 0} (meaning : ℕ → A) (p w : ℕ) → 1 ≤ w → w ≤ 64 → ShortAlone (readBy meaning s p w)
+  of-field meaning p w low high =
+      record { number = λ {n} {carried} e. let d = refused-short meaning s p w few low high e in cc }
+
+  pub short1059 : (p : ℕ) → ShortAlone (block1059 s p)
+  unfolding block1059 satelliteAt biasAt
+  short1059 p =
+      both (readUnsigned s p 6) _ (of-field (λ v. v) p 6 (omega arith) (omega arith)) (λ m. each (satelliteAt s) (λ p.
+      both (readUnsigned s p 6) _ (of-field (λ v. v) p 6 (omega arith) (omega arith)) (λ a.
+      both (readUnsigned s (a .next) 5) _ (of-field (λ v. v) (a .next) 5 (omega arith) (omega arith)) (λ n. each (biasAt s (a .value)) (λ p.
+      both (readUnsigned s p 5) _ (of-field (λ v. v) p 5 (omega arith) (omega arith)) (λ g.
+      both (readTwos s (g .next) 14) _ (of-field (twosOf 14) (g .next) 14 (omega arith) (omega arith)) (λ z.
+      accepts _))) (n .value) (n .next)))) (m .value) (m .next))
+
+  biases : (gs : List ℕ) (p : ℕ) → ShortAlone (biasesAt s gs p)
+  unfolding biasesAt
+  biases [] p = accepts _
+  biases (g ∷ gs) p =
+      both (readTwos s p 16) _ (of-field (twosOf 16) p 16 (omega arith) (omega arith)) (λ z.
+      both (biasesAt s gs (z .next)) _ (biases gs (z .next)) (λ ys. accepts _))
+
+  pub short1230 : (p : ℕ) → ShortAlone (block1230 s p)
+  unfolding block1230
+  short1230 p =
+      both (readUnsigned s p 4) _ (of-field (λ v. v) p 4 (omega arith) (omega arith)) (λ m. biases (masked maskSignals (m .value)) (m .next))
+
+-- ---- never Room
+
+-- a reading of at most k records does not lack room in lists of k
+roomy : {A : Type 0} (t : Told (Reading (List A))) (k n : ℕ) → ShortAlone t → ((r : Reading (List A)) → t ≡ Accepted r → length (r .value) ≤ k) → k ≤ n
+    → {m : ℕ} → andThen t (roomFor n) ≡ room m → ⊥
+roomy (Accepted r) k n o h l {m} e =
+    let d : length (r .value) ≤ n = omega (arith, h r refl) in
+    let f = rw (le-ltb _ _ d) at e in
+    let z : _≡_ {A = ℕ} 0 1 = cc in
+    omega arith
+roomy (Refused x carried) k n o h l {m} e = let d : x ≡ 8 = cc in omega (arith, o .number refl)
+
+module _ (s : List ℕ) (p : ℕ) where
+  pub never-room1059 : (sats gs : List ℕ) (zs : List ℤ) → 422 ≤ length sats → {m : ℕ} → read1059 s p sats gs zs .answer ≡ room m → ⊥
+  unfolding read1059
+  never-room1059 sats gs zs h {m} e = go (ltb 1023 (length s)) refl (not (eqb (length sats) (length gs))) (not (eqb (length sats) (length zs))) e
+    where
+      told : (t : Told (Reading (List Rec1059))) → left1059 sats gs zs t .answer ≡ room m → t ≡ room m
+      told (Accepted r) e = let z : _≡_ {A = ℕ} 0 1 = cc in absurd (omega arith)
+      told (Refused n carried) e = cc
+
+      go : (a : Bool) → ltb 1023 (length s) ≡ a → (b c : Bool)
+          → left1059 sats gs zs (cond a size (cond b size (cond c size (andThen (block1059 s p) (roomFor (length sats)))))) .answer ≡ room m → ⊥
+      go true d b c e = let z : _≡_ {A = ℕ} 9 8 = cc in omega arith
+      go false d true c e = let z : _≡_ {A = ℕ} 9 8 = cc in omega arith
+      go false d false true e = let z : _≡_ {A = ℕ} 9 8 = cc in omega arith
+      go false d false false e =
+          roomy (block1059 s p) 422 (length sats) (short1059 s (ltb-false 1023 (length s) d) p) (λ r f. enough1059 s p f) h (told (andThen (block1059 s p) (roomFor (length sats))) e)
+
+  pub never-room1230 : (gs : List ℕ) (zs : List ℤ) → 4 ≤ length gs → {m : ℕ} → read1230 s p gs zs .answer ≡ room m → ⊥
+  unfolding read1230
+  never-room1230 gs zs h {m} e = go (ltb 1023 (length s)) refl (not (eqb (length gs) (length zs))) e
+    where
+      told : (t : Told (Reading (List Rec1230))) → left1230 gs zs t .answer ≡ room m → t ≡ room m
+      told (Accepted r) e = let z : _≡_ {A = ℕ} 0 1 = cc in absurd (omega arith)
+      told (Refused n carried) e = cc
+
+      go : (a : Bool) → ltb 1023 (length s) ≡ a → (b : Bool)
+          → left1230 gs zs (cond a size (cond b size (andThen (block1230 s p) (roomFor (length gs))))) .answer ≡ room m → ⊥
+      go true d b e = let z : _≡_ {A = ℕ} 9 8 = cc in omega arith
+      go false d true e = let z : _≡_ {A = ℕ} 9 8 = cc in omega arith
+      go false d false e =
+          roomy (block1230 s p) 4 (length gs) (short1230 s (ltb-false 1023 (length s) d) p) (λ r f. block1230-extends s p f .few) h (told (andThen (block1230 s p) (roomFor (length gs))) e)

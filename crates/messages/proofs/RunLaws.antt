@@ -1,0 +1,86 @@
+-- A run of records of one width: how many are there and where they end need no field to be read. Assumes nothing.
+use mathlib.Core.Path.{_≡_, refl, sym, ap, ap₂, _∙_}
+use mathlib.Core.List.{List, [], _∷_}
+use Prim.Native.Nat.{ℕ, zero, suc, _+_, _*_, _≤_, _<_}
+use native.Mathlib.Nat.{add-zero, zero-mul, suc-mul}
+use native.Mathlib.Decide.{decLt}
+use native.Mathlib.Omega.{arith}
+use lib.ListN.{length, length-append}
+use Rattle.bits.specs.Told.{Told, Accepted, short}
+use Rattle.bits.specs.Field.{Reading, reading}
+use Rattle.messages.specs.Reader.{before, many}
+use Rattle.messages.specs.Records.{counted}
+use Rattle.messages.specs.ReadSteps.{counts}
+use Rattle.messages.proofs.PassLaws.{chain, both-read, counts-before}
+
+module _ {A : Type 0} (w most : ℕ) (cut : ℕ → ℕ) where
+  -- f reads one record of w bits where it ends by bit `most`, and else is cut short
+  pub record Single (f : ℕ → Told (Reading (List A))) : Type 0 where
+    pub record-of : ℕ → A
+    pub fits : (p : ℕ) → p + w ≤ most → f p ≡ Accepted (reading (record-of p ∷ []) (p + w))
+    pub cuts : (p : ℕ) → most < p + w → f p ≡ short (cut p)
+
+  -- n such records, one behind the other
+  pub data Run : ℕ → (ℕ → Told (Reading (List A))) → Type 0 where
+    none : {run : ℕ → Told (Reading (List A))} → ((p : ℕ) → run p ≡ Accepted (reading [] p)) → Run 0 run
+    more : {n : ℕ} {f rest run : ℕ → Told (Reading (List A))} → Single f → ((p : ℕ) → run p ≡ chain (f p) rest) → Run n rest → Run (suc n) run
+
+  pub many-run : {f : ℕ → Told (Reading (List A))} → Single f → (n : ℕ) → Run n (many f n)
+  unfolding many
+  many-run o zero = none (λ p. refl)
+  many-run o (suc n) = more o (λ p. refl) (many-run o n)
+
+  -- all of it is there
+  pub run-fits : {n : ℕ} {run : ℕ → Told (Reading (List A))} → Run n run → (i p : ℕ) → p + n * w ≤ most → Accepted (counted (i + n) (p + n * w)) ≡ counts i (run p)
+  unfolding counts
+  run-fits (none e) i p h = simp (e p, zero-mul, add-zero)
+  run-fits (more {n} {f} {rest} {run} o e r) i p h =
+      let a = suc-mul n w in
+      let g = o .fits p (omega arith) in
+      let t = run-fits r (i + 1) (p + w) (omega arith) in
+      let b : i + suc n ≡ i + 1 + n = omega arith in
+      let d : p + suc n * w ≡ p + w + n * w = omega arith in
+      ap₂ (λ (x y : ℕ). Accepted (counted x y)) b d
+      ∙ t
+      ∙ sym (ap (counts i) (e p ∙ ap (λ (u : Told (Reading (List A))). chain u rest) g) ∙ counts-before i (o .record-of p ∷ []) (rest (p + w)))
+
+  -- m of it are there, and the next is cut short
+  pub run-cut : {n : ℕ} {run : ℕ → Told (Reading (List A))} → Run n run → (m p : ℕ) → m < n → p + m * w ≤ most → most < p + m * w + w → run p ≡ short (cut (p + m * w))
+  run-cut (none e) m p l h c = absurd (omega arith)
+  run-cut (more {n} {f} {rest} {run} o e r) zero p l h c =
+      let z = zero-mul w in
+      let g = o .cuts p (omega arith) in
+      e p ∙ ap (λ (u : Told (Reading (List A))). chain u rest) g ∙ ap (λ (x : ℕ). short (cut x)) (omega arith)
+  run-cut (more {n} {f} {rest} {run} o e r) (suc m) p l h c =
+      let a = suc-mul m w in
+      let g = o .fits p (omega arith) in
+      let t = run-cut r m (p + w) (omega arith) (omega arith) (omega arith) in
+      e p ∙ ap (λ (u : Told (Reading (List A))). chain u rest) g
+      ∙ ap (before (o .record-of p ∷ [])) t ∙ ap (λ (x : ℕ). short (cut x)) (omega arith)
+
+  -- what an accepted run tells: its records, its end, and that it is there
+  pub run-tells : {n : ℕ} {run : ℕ → Told (Reading (List A))} → Run n run → (p : ℕ) → p ≤ most → {r : Reading (List A)} → run p ≡ Accepted r
+      → (length (r .value) ≡ n) × (r .next ≡ p + n * w) × (r .next ≤ most)
+  run-tells (none e) p h {r} a =
+      let d : reading [] p ≡ r = cc (e p) in
+      let l = ap (λ (x : Reading (List A)). length (x .value)) d in
+      let q = ap (λ (x : Reading (List A)). x .next) d in
+      let z = zero-mul w in
+      (omega arith, omega arith, omega arith)
+  run-tells (more {n} {f} {rest} {run} o e r) p h {r = x} a = go (λ q l y b. run-tells r q l {r = y} b) (decLt most (p + w))
+    where
+      go : ((q : ℕ) → q ≤ most → (y : Reading (List A)) → rest q ≡ Accepted y → (length (y .value) ≡ n) × (y .next ≡ q + n * w) × (y .next ≤ most))
+          → Dec (most < p + w) → (length (x .value) ≡ suc n) × (x .next ≡ p + suc n * w) × (x .next ≤ most)
+      go later (yes l) =
+          let d : run p ≡ short (cut p) = e p ∙ ap (λ (u : Told (Reading (List A))). chain u rest) (o .cuts p l) in
+          let z : _≡_ {A = ℕ} 0 1 = cc in
+          absurd (omega arith)
+      go later (no l) =
+          let b = both-read (f p) rest (sym (e p) ∙ a) in
+          let g : b .first ≡ reading (o .record-of p ∷ []) (p + w) = cc (o .fits p (omega arith)) in
+          let v = ap (λ (y : Reading (List A)). length (y .value)) g in
+          let q = ap (λ (y : Reading (List A)). y .next) g in
+          let t = later (b .first .next) (omega arith) (b .second) (b .second-is) in
+          let m = suc-mul n w in
+          let j = ap length (b .value) ∙ length-append (b .first .value) (b .second .value) in
+          (omega (arith, t .0), omega (arith, t .1, b .next), omega (arith, t .2, b .next))

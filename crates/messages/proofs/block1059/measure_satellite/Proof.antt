@@ -1,0 +1,59 @@
+-- Its number and its bias count are read, and its biases are measured. Assumes nothing.
+use mathlib.Core.Path.{sym, ap, _∙_}
+use native.Mathlib.Omega.{arith}
+use Rattle.bits.specs.Answers.{toldUnsigned}
+use Rattle.messages.specs.ReadSteps.{counts}
+use Rattle.messages.proofs.ArmLaws.{unsigned-cut, value-within}
+use Rattle.messages.proofs.PassLaws.{counts-short}
+use Rattle.messages.proofs.Laws1059.{satellite-cut, satellite-cut-2, satellite-read}
+use borrow.Author.Needs.{needs}
+use Rattle.messages.proofs.block1059.measure_satellite.Statement.{statement}
+use Rattle.messages.proofs.block1059.measure_satellite.Tie as tie
+
+read-unsigned-requires : tie.Need-read-unsigned-requires
+read-unsigned-requires c κs = search needs
+
+enum-known-at : tie.Need-enum-known-at
+enum-known-at c = search needs
+
+returns : tie.Need-returns
+returns c =
+    counts-short _ _ (satellite-cut _ _ (unsigned-cut _ _ 6 (omega arith) (omega arith) (omega arith) (c .before .read-unsigned .result) (c .before .read-unsigned .ensures) (c .match .keys2)))
+
+read-unsigned-requires-2 : tie.Need-read-unsigned-requires-2
+read-unsigned-requires-2 c κs = search needs
+
+enum-known-n : tie.Need-enum-known-n
+enum-known-n c = search needs
+
+returns-2 : tie.Need-returns-2
+returns-2 c =
+    let b = c .before .before .before in
+    let e = sym (b .before .before .read-unsigned .ensures) ∙ ap toldUnsigned (b .at .given .1) in
+    counts-short _ _ (satellite-cut-2 _ _ e (unsigned-cut _ _ 5 (omega arith) (omega arith) (omega arith) (c .before .read-unsigned2 .result) (c .before .read-unsigned2 .ensures) (c .match2 .keys2)))
+
+measure-biases-requires : tie.Need-measure-biases-requires
+measure-biases-requires c κs =
+    let e = sym (c .before .before .before .read-unsigned2 .ensures) ∙ ap toldUnsigned (c .before .n .given .1) in
+    let t = value-within _ _ 5 e in
+    (omega arith, omega arith, omega arith, omega arith)
+
+returns-3 : tie.Need-returns-3
+returns-3 c =
+    let b = c .before .before in
+    let e = sym (b .before .before .before .before .before .before .read-unsigned .ensures) ∙ ap toldUnsigned (b .before .before .before .before .at .given .1) in
+    let f = sym (b .before .before .read-unsigned2 .ensures) ∙ ap toldUnsigned (b .n .given .1) in
+    c .measure-biases .ensures _ ∙ ap (counts _) (sym (satellite-read _ _ e f))
+
+pub measure-satellite-spec : {M : Type 1} → statement M
+measure-satellite-spec =
+    tie.close
+    (tie.spec
+    read-unsigned-requires
+    enum-known-at
+    returns
+    read-unsigned-requires-2
+    enum-known-n
+    returns-2
+    measure-biases-requires
+    returns-3)

@@ -1,0 +1,94 @@
+-- The first pass decides the answer, and the second stores what it found. Assumes nothing.
+use mathlib.Core.Path.{refl, sym, ap, _∙_}
+use native.Mathlib.Omega.{arith}
+use Rattle.bits.specs.Answers.{toldUnsigned}
+use Rattle.messages.specs.ReadSteps.{put1059}
+use Rattle.messages.specs.Answers.{toldRead}
+use Rattle.messages.proofs.ArmLaws.{unsigned-cut, value-within, short-refused, read-refused}
+use Rattle.messages.proofs.PassLaws.{counts-short}
+use Rattle.messages.proofs.CallLaws.{has-room, refuses, lacks-room, reads}
+use Rattle.messages.proofs.Read1059Laws.{too-long, uneven, uneven-2, block-cut, block-read, outcomeOf, call1059}
+use borrow.Author.Needs.{needs}
+use Rattle.messages.proofs.block1059.read.Statement.{statement}
+use Rattle.messages.proofs.block1059.read.Tie as tie
+
+returns : tie.Need-returns
+returns c = too-long _ _ _ _ _ (omega arith)
+
+returns-2 : tie.Need-returns-2
+returns-2 c = uneven _ _ _ _ _ (omega arith) (c .if2 .taken)
+
+returns-3 : tie.Need-returns-3
+returns-3 c = uneven-2 _ _ _ _ _ (omega arith) (c .before .if2 .left) (c .if3 .taken)
+
+read-unsigned-requires : tie.Need-read-unsigned-requires
+read-unsigned-requires c κs = search needs
+
+enum-known-n : tie.Need-enum-known-n
+enum-known-n c = search needs
+
+returns-4 : tie.Need-returns-4
+returns-4 c =
+    let r = c .before .read-unsigned in
+    let b = block-cut _ _ (unsigned-cut _ _ 6 (omega arith) (omega arith) (omega arith) (r .result) (r .ensures) (c .match .keys2)) in
+    refuses put1059 outcomeOf (call1059 _ _ _ _ _ (omega arith) (c .before .before .before .if2 .left) (c .before .before .if3 .left) b) (short-refused _) (counts-short 0 _ refl)
+
+measure-requires : tie.Need-measure-requires
+measure-requires c κs =
+    let t = value-within _ _ 6 (sym (c .before .before .before .read-unsigned .ensures) ∙ ap toldUnsigned (c .before .n .given .1)) in
+    (omega arith, omega arith)
+
+enum-known-extent : tie.Need-enum-known-extent
+enum-known-extent c = search needs
+
+returns-5 : tie.Need-returns-5
+returns-5 c =
+    let b = block-read _ _ (sym (c .before .before .before .before .before .read-unsigned .ensures) ∙ ap toldUnsigned (c .before .before .before .n .given .1)) in
+    let m = c .before .measure in
+    refuses put1059 outcomeOf (call1059 _ _ _ _ _ (omega arith) (c .before .before .before .before .before .before .before .if2 .left) (c .before .before .before .before .before .before .if3 .left) b) (read-refused (m .result) (c .match2 .keys2)) (m .ensures)
+
+returns-6 : tie.Need-returns-6
+returns-6 c =
+    let b = block-read _ _ (sym (c .before .before .before .before .before .before .before .before .read-unsigned .ensures) ∙ ap toldUnsigned (c .before .before .before .before .before .before .n .given .1)) in
+    let e = ap toldRead (sym (c .before .before .extent .given .1)) ∙ c .before .before .before .before .measure .ensures in
+    lacks-room put1059 outcomeOf (call1059 _ _ _ _ _ (omega arith) (c .before .before .before .before .before .before .before .before .before .before .if2 .left) (c .before .before .before .before .before .before .before .before .before .if3 .left) b) e (omega arith)
+
+store-requires : tie.Need-store-requires
+store-requires c κs =
+    let e = ap toldRead (sym (c .before .before .before .before .before .extent .given .1)) ∙ c .before .before .before .before .before .before .before .measure .ensures in
+    record { few = omega arith; placed = has-room _ _ e (omega arith); signals = omega arith; biases = omega arith }
+
+same-length : tie.Need-same-length
+same-length c = search needs
+
+same-length-2 : tie.Need-same-length-2
+same-length-2 c = search needs
+
+same-length-3 : tie.Need-same-length-3
+same-length-3 c = search needs
+
+returns-7 : tie.Need-returns-7
+returns-7 c =
+    let b = block-read _ _ (sym (c .before .before .before .before .before .before .before .before .before .before .before .before .before .before .before .before .before .read-unsigned .ensures) ∙ ap toldUnsigned (c .before .before .before .before .before .before .before .before .before .before .before .before .before .before .before .n .given .1)) in
+    let e = ap toldRead (sym (c .before .before .before .before .before .before .before .before .before .before .before .extent .given .1)) ∙ c .before .before .before .before .before .before .before .before .before .before .before .before .before .measure .ensures in
+    reads put1059 outcomeOf (call1059 _ _ _ _ _ (omega arith) (c .before .before .before .before .before .before .before .before .before .before .before .before .before .before .before .before .before .before .before .if2 .left) (c .before .before .before .before .before .before .before .before .before .before .before .before .before .before .before .before .before .before .if3 .left) b) (has-room _ _ e (omega arith)) (c .before .before .before .before .before .store .ensures)
+
+pub read-spec : {M : Type 1} → statement M
+read-spec =
+    tie.close
+    (tie.spec
+    returns
+    returns-2
+    returns-3
+    read-unsigned-requires
+    enum-known-n
+    returns-4
+    measure-requires
+    enum-known-extent
+    returns-5
+    returns-6
+    store-requires
+    same-length
+    same-length-2
+    same-length-3
+    returns-7)

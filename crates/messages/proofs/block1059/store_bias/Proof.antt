@@ -1,0 +1,115 @@
+-- Signal and bias are read, and the record that they make is stored. Assumes nothing.
+use mathlib.Core.Path.{sym, ap, _∙_}
+use native.Mathlib.Omega.{arith}
+use Rattle.bits.specs.Answers.{toldUnsigned, toldSigned}
+use Rattle.messages.specs.ReadSteps.{put1059}
+use Rattle.messages.proofs.ArmLaws.{unsigned-cut, twos-cut, value-within}
+use Rattle.messages.proofs.BiasLaws.{bias-narrow}
+use Rattle.messages.proofs.PassLaws.{placed-one, stored-short}
+use Rattle.messages.proofs.PutLaws.{put1059-none}
+use Rattle.messages.proofs.Laws1059.{bias-cut, bias-cut-2, bias-read, bias-stored}
+use borrow.Author.Needs.{needs}
+use Rattle.messages.proofs.block1059.store_bias.Statement.{statement}
+use Rattle.messages.proofs.block1059.store_bias.Tie as tie
+
+read-unsigned-requires : tie.Need-read-unsigned-requires
+read-unsigned-requires c κs = search needs
+
+enum-known-signal : tie.Need-enum-known-signal
+enum-known-signal c = search needs
+
+returns : tie.Need-returns
+returns c =
+    let few = c .before .before .before .before .before .pre .few in
+    stored-short put1059 (bias-cut _ _ _ (unsigned-cut _ _ 5 few (omega arith) (omega arith) (c .before .read-unsigned .result) (c .before .read-unsigned .ensures) (c .match .keys2))) (put1059-none _ _)
+
+read-twos-requires : tie.Need-read-twos-requires
+read-twos-requires c κs = search needs
+
+enum-known-bias : tie.Need-enum-known-bias
+enum-known-bias c = search needs
+
+returns-2 : tie.Need-returns-2
+returns-2 c =
+    let b = c .before .before .before in
+    let few = b .before .before .before .before .before .before .pre .few in
+    let e = sym (b .before .before .read-unsigned .ensures) ∙ ap toldUnsigned (b .signal .given .1) in
+    stored-short put1059 (bias-cut-2 _ _ _ e (twos-cut _ _ 14 few (omega arith) (omega arith) (c .before .read-twos .result) (c .before .read-twos .ensures) (c .match2 .keys2))) (put1059-none _ _)
+
+slice-write-satellites : tie.Need-slice-write-satellites
+slice-write-satellites c =
+    let b = c .before .before .before .before .before in
+    let e = sym (b .before .before .read-unsigned .ensures) ∙ ap toldUnsigned (b .signal .given .1) in
+    let f = sym (c .before .before .before .read-twos .ensures) ∙ ap toldSigned (c .before .bias .given .1) in
+    let h = placed-one (b .before .before .before .before .before .before .pre .placed) (bias-read _ _ _ e f) in
+    omega arith
+
+cast-signals : tie.Need-cast-signals
+cast-signals c =
+    let b = c .before .before .before .before .before in
+    let t = value-within _ _ 5 (sym (b .before .before .read-unsigned .ensures) ∙ ap toldUnsigned (b .signal .given .1)) in
+    omega arith
+
+slice-write-signals : tie.Need-slice-write-signals
+slice-write-signals c =
+    let b = c .before .before .before .before .before in
+    let e = sym (b .before .before .read-unsigned .ensures) ∙ ap toldUnsigned (b .signal .given .1) in
+    let f = sym (c .before .before .before .read-twos .ensures) ∙ ap toldSigned (c .before .bias .given .1) in
+    let h = placed-one (b .before .before .before .before .before .before .pre .placed) (bias-read _ _ _ e f) in
+    omega arith
+
+cast-biases : tie.Need-cast-biases
+cast-biases c =
+    bias-narrow _ _ 14 (omega arith) (sym (c .before .before .before .read-twos .ensures) ∙ ap toldSigned (c .before .bias .given .1)) .0
+
+mul-t18 : tie.Need-mul-t18
+mul-t18 c = search needs
+
+slice-set-from-biases : tie.Need-slice-set-from-biases
+slice-set-from-biases c =
+    let b = c .before .before .before .before .before in
+    let e = sym (b .before .before .read-unsigned .ensures) ∙ ap toldUnsigned (b .signal .given .1) in
+    let f = sym (c .before .before .before .read-twos .ensures) ∙ ap toldSigned (c .before .bias .given .1) in
+    let h = placed-one (b .before .before .before .before .before .before .pre .placed) (bias-read _ _ _ e f) in
+    omega arith
+
+add-t18 : tie.Need-add-t18
+add-t18 c = search needs
+
+same-length : tie.Need-same-length
+same-length c = search needs
+
+same-length-2 : tie.Need-same-length-2
+same-length-2 c = search needs
+
+same-length-3 : tie.Need-same-length-3
+same-length-3 c = search needs
+
+returns-3 : tie.Need-returns-3
+returns-3 c =
+    let b = c .before .before .before .before .before in
+    let e = sym (b .before .before .read-unsigned .ensures) ∙ ap toldUnsigned (b .signal .given .1) in
+    let f = sym (c .before .before .before .read-twos .ensures) ∙ ap toldSigned (c .before .bias .given .1) in
+    bias-stored _ _ _ _ _ _ _ e f (bias-narrow _ _ 14 (omega arith) f .1)
+
+pub store-bias-spec : {M : Type 1} → statement M
+store-bias-spec =
+    tie.close
+    (tie.spec
+    read-unsigned-requires
+    enum-known-signal
+    returns
+    read-twos-requires
+    enum-known-bias
+    returns-2
+    slice-write-satellites
+    cast-signals
+    slice-write-signals
+    cast-biases
+    mul-t18
+    slice-set-from-biases
+    add-t18
+    same-length
+    same-length-2
+    same-length-3
+    returns-3)

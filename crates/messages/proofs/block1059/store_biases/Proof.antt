@@ -1,0 +1,111 @@
+-- The biases are stored one behind the other. Assumes nothing.
+use mathlib.Core.Path.{_≡_, refl, sym, ap, _∙_}
+use Prim.Native.Nat.{_-_, _≤_}
+use native.Mathlib.Omega.{arith}
+use borrow.Author.Needs.{needs}
+use lib.ListN.{length}
+use Rattle.messages.specs.Reader.{many}
+use Rattle.messages.specs.ReadSteps.{lists1059, put1059}
+use Rattle.messages.specs.Block1059.{biasAt}
+use Rattle.messages.specs.Answers.{toldRead}
+use Rattle.messages.proofs.ArmLaws.{read-refused}
+use Rattle.messages.proofs.PassLaws.{many-all, stored-answer}
+use Rattle.messages.proofs.StoreLaws.{Doing, begun, left-as, turn-placed, turn-read, turn-stored, turns-done}
+use Rattle.messages.proofs.PutLaws.{put1059-none, put1059-on}
+use Rattle.messages.proofs.block1059.store_biases.Statement.{statement}
+use Rattle.messages.proofs.block1059.store_biases.Tie as tie
+
+abbrev Inv-loop : tie.InvT-loop
+Inv-loop bytes start satellite n first satellites₀ signals₀ biases₀ at₀ i₀ k₀ satellites signals biases at i k =
+    (k ≤ n) × (length satellites ≡ length satellites₀) × (length signals ≡ length satellites₀) × (length biases ≡ length satellites₀)
+    × Doing put1059 first (length satellites₀) (many (biasAt bytes satellite) n start) (lists1059 satellites₀ signals₀ biases₀) i (many (biasAt bytes satellite) (n - k) at) (lists1059 satellites signals biases)
+
+abbrev μ-loop : tie.MeasureT-loop
+μ-loop bytes start satellite n first satellites₀ signals₀ biases₀ at₀ i₀ k₀ satellites signals biases at i k = n - k
+
+loop-holds : tie.Need-loop-holds Inv-loop μ-loop
+loop-holds c =
+    let r = c .before .before .before .pre in
+    (omega arith, refl, r .signals, r .biases, left-as put1059 (begun put1059 (r .placed)) (many-all _ _ _))
+
+store-bias-requires : tie.Need-store-bias-requires Inv-loop μ-loop
+store-bias-requires c κs =
+    let l = c .before .before .before .before .loop in
+    let few = c .before .before .before .before .before .before .before .before .pre .few in
+    record {
+      few = few;
+      placed = rw (l .inv .1) (turn-placed put1059 _ _ (l .k) (l .at) (l .i) (l .inv .4) (omega arith));
+      signals = omega arith;
+      biases = omega arith;
+    }
+
+enum-known-one : tie.Need-enum-known-one Inv-loop μ-loop
+enum-known-one c = search needs
+
+same-length : tie.Need-same-length Inv-loop μ-loop
+same-length c = search needs
+
+same-length-2 : tie.Need-same-length-2 Inv-loop μ-loop
+same-length-2 c = search needs
+
+same-length-3 : tie.Need-same-length-3 Inv-loop μ-loop
+same-length-3 c = search needs
+
+returns : tie.Need-returns Inv-loop μ-loop
+returns c =
+    let l = c .before .before .before .before .before .before .before .before .before .before .before .loop in
+    let s = c .before .before .before .before .before .before .store-bias in
+    let r = read-refused (s .result) (c .match .keys2) in
+    absurd (turn-read put1059 _ _ (l .k) (l .at) (l .i) (l .inv .4) (omega arith) (sym (r .is) ∙ s .ensures .says))
+
+add-k : tie.Need-add-k Inv-loop μ-loop
+add-k c = search needs
+
+loop-less : tie.Need-loop-less Inv-loop μ-loop
+loop-less c = search needs
+
+loop-again : tie.Need-loop-again Inv-loop μ-loop
+loop-again c =
+    let l = c .before .before .before .before .before .before .before .before .before .before .before .before .before .loop in
+    let s = c .before .before .before .before .before .before .before .before .store-bias in (
+      omega arith,
+      omega arith,
+      omega arith,
+      omega arith,
+      turn-stored put1059 _ _ (l .k) (l .at) (l .i) (l .inv .4) (omega arith) put1059-on (stored-answer put1059 (ap toldRead (c .before .one .given .1)) (s .ensures)),
+    )
+
+same-length-4 : tie.Need-same-length-4 Inv-loop μ-loop
+same-length-4 c = search needs
+
+same-length-5 : tie.Need-same-length-5 Inv-loop μ-loop
+same-length-5 c = search needs
+
+same-length-6 : tie.Need-same-length-6 Inv-loop μ-loop
+same-length-6 c = search needs
+
+returns-2 : tie.Need-returns-2 Inv-loop μ-loop
+returns-2 c =
+    let l = c .before .loop in
+    turns-done put1059 _ _ (l .k) (l .at) (l .i) (l .inv .4) (omega arith) put1059-none
+
+pub store-biases-spec : {M : Type 1} → statement M
+store-biases-spec =
+    tie.close
+    (tie.spec
+    Inv-loop
+    μ-loop
+    loop-holds
+    store-bias-requires
+    enum-known-one
+    same-length
+    same-length-2
+    same-length-3
+    returns
+    add-k
+    loop-less
+    loop-again
+    same-length-4
+    same-length-5
+    same-length-6
+    returns-2)

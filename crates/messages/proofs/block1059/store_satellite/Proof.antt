@@ -1,0 +1,81 @@
+-- Its number and its bias count are read, and its biases are stored. Assumes nothing.
+use mathlib.Core.Path.{sym, ap, _∙_}
+use native.Mathlib.Omega.{arith}
+use Rattle.bits.specs.Answers.{toldUnsigned}
+use Rattle.messages.specs.ReadSteps.{put1059}
+use Rattle.messages.proofs.ArmLaws.{unsigned-cut, value-within}
+use Rattle.messages.proofs.PassLaws.{placed-as, stored-short, stored-as}
+use Rattle.messages.proofs.PutLaws.{put1059-none}
+use Rattle.messages.proofs.Laws1059.{satellite-cut, satellite-cut-2, satellite-read}
+use borrow.Author.Needs.{needs}
+use Rattle.messages.proofs.block1059.store_satellite.Statement.{statement}
+use Rattle.messages.proofs.block1059.store_satellite.Tie as tie
+
+read-unsigned-requires : tie.Need-read-unsigned-requires
+read-unsigned-requires c κs = search needs
+
+enum-known-satellite : tie.Need-enum-known-satellite
+enum-known-satellite c = search needs
+
+returns : tie.Need-returns
+returns c =
+    let few = c .before .before .before .before .before .pre .few in
+    let r = c .before .read-unsigned in
+    stored-short put1059 (satellite-cut _ _ (unsigned-cut _ _ 6 few (omega arith) (omega arith) (r .result) (r .ensures) (c .match .keys2))) (put1059-none _ _)
+
+read-unsigned-requires-2 : tie.Need-read-unsigned-requires-2
+read-unsigned-requires-2 c κs = search needs
+
+enum-known-n : tie.Need-enum-known-n
+enum-known-n c = search needs
+
+returns-2 : tie.Need-returns-2
+returns-2 c =
+    let few = c .before .before .before .before .before .before .before .before .before .pre .few in
+    let e = sym (c .before .before .before .before .before .read-unsigned .ensures) ∙ ap toldUnsigned (c .before .before .before .satellite .given .1) in
+    let r = c .before .read-unsigned2 in
+    stored-short put1059 (satellite-cut-2 _ _ e (unsigned-cut _ _ 5 few (omega arith) (omega arith) (r .result) (r .ensures) (c .match2 .keys2))) (put1059-none _ _)
+
+cast-store-biases : tie.Need-cast-store-biases
+cast-store-biases c =
+    let t = value-within _ _ 6 (sym (c .before .before .before .before .before .before .before .read-unsigned .ensures) ∙ ap toldUnsigned (c .before .before .before .before .before .satellite .given .1)) in
+    omega arith
+
+store-biases-requires : tie.Need-store-biases-requires
+store-biases-requires c κs =
+    let r = c .before .before .before .before .before .before .before .before .before .before .before .before .before .before .pre in
+    let e = sym (c .before .before .before .before .before .before .before .before .before .before .read-unsigned .ensures) ∙ ap toldUnsigned (c .before .before .before .before .before .before .before .before .satellite .given .1) in
+    let f = sym (c .before .before .before .before .before .before .read-unsigned2 .ensures) ∙ ap toldUnsigned (c .before .before .before .before .n .given .1) in
+    record { few = r .few; placed = placed-as (satellite-read _ _ e f) (r .placed); signals = r .signals; biases = r .biases }
+
+same-length : tie.Need-same-length
+same-length c = search needs
+
+same-length-2 : tie.Need-same-length-2
+same-length-2 c = search needs
+
+same-length-3 : tie.Need-same-length-3
+same-length-3 c = search needs
+
+returns-3 : tie.Need-returns-3
+returns-3 c =
+    let e = sym (c .before .before .before .before .before .before .before .before .before .before .before .before .before .before .before .before .read-unsigned .ensures) ∙ ap toldUnsigned (c .before .before .before .before .before .before .before .before .before .before .before .before .before .before .satellite .given .1) in
+    let f = sym (c .before .before .before .before .before .before .before .before .before .before .before .before .read-unsigned2 .ensures) ∙ ap toldUnsigned (c .before .before .before .before .before .before .before .before .before .before .n .given .1) in
+    stored-as put1059 (satellite-read _ _ e f) (c .before .before .before .before .before .store-biases .ensures)
+
+pub store-satellite-spec : {M : Type 1} → statement M
+store-satellite-spec =
+    tie.close
+    (tie.spec
+    read-unsigned-requires
+    enum-known-satellite
+    returns
+    read-unsigned-requires-2
+    enum-known-n
+    returns-2
+    cast-store-biases
+    store-biases-requires
+    same-length
+    same-length-2
+    same-length-3
+    returns-3)

@@ -1,0 +1,128 @@
+-- The signals of the mask are passed one by one, and the biases of those whose bit is set are stored. Assumes nothing.
+use mathlib.Core.Path.{_≡_, refl, sym, ap, _∙_}
+use Prim.Native.Nat.{_-_, _≤_}
+use native.Mathlib.Omega.{arith}
+use borrow.Author.Needs.{needs}
+use lib.ListN.{length, drop}
+use Rattle.messages.specs.Block1230.{maskSignals, masked, biasesAt}
+use Rattle.messages.specs.ReadSteps.{lists1230, put1230}
+use Rattle.messages.specs.Answers.{toldRead}
+use Rattle.messages.proofs.ArmLaws.{read-refused}
+use Rattle.messages.proofs.PassLaws.{stored-answer}
+use Rattle.messages.proofs.StoreLaws.{Doing, begun, left-as, done}
+use Rattle.messages.proofs.PutLaws.{put1230-none}
+use Rattle.messages.proofs.Laws1230.{masked-lacks, masked-none, signal-placed, signal-read, signal-stored}
+use Rattle.messages.proofs.block1230.store.Statement.{statement}
+use Rattle.messages.proofs.block1230.store.Tie as tie
+
+abbrev Inv-loop : tie.InvT-loop
+Inv-loop bytes start mask numbers signals₀ biases₀ at₀ i₀ k₀ signals biases at i k =
+    (k ≤ 4) × (length signals ≡ length signals₀) × (length biases ≡ length signals₀)
+    × Doing put1230 0 (length signals₀) (biasesAt bytes (masked maskSignals mask) start) (lists1230 signals₀ biases₀) i (biasesAt bytes (masked (drop k maskSignals) mask) at) (lists1230 signals biases)
+
+abbrev μ-loop : tie.MeasureT-loop
+μ-loop bytes start mask numbers signals₀ biases₀ at₀ i₀ k₀ signals biases at i k = 4 - k
+
+loop-holds : tie.Need-loop-holds Inv-loop μ-loop
+loop-holds c =
+    let r = c .before .before .pre .1 in
+    (omega arith, refl, r .biases, begun put1230 (r .placed))
+
+sub-if1 : tie.Need-sub-if1 Inv-loop μ-loop
+sub-if1 c = search needs
+
+shr-if1 : tie.Need-shr-if1 Inv-loop μ-loop
+shr-if1 c = search needs
+
+add-k : tie.Need-add-k Inv-loop μ-loop
+add-k c = search needs
+
+loop-less : tie.Need-loop-less Inv-loop μ-loop
+loop-less c = search needs
+
+loop-again : tie.Need-loop-again Inv-loop μ-loop
+loop-again c =
+    let l = c .before .before .loop in
+    (omega arith, l .inv .1, l .inv .2, left-as put1230 (l .inv .3) (masked-lacks _ (l .k) _ (l .at) (omega arith) (c .if1 .taken)))
+
+element-copy-out-store-bias : tie.Need-element-copy-out-store-bias Inv-loop μ-loop
+element-copy-out-store-bias c = search needs
+
+store-bias-requires : tie.Need-store-bias-requires Inv-loop μ-loop
+store-bias-requires c κs =
+    let l = c .before .before .before .before .before .loop in
+    let r = c .before .before .before .before .before .before .before .before .pre in
+    record {
+      few = r .1 .few;
+      placed = rw (l .inv .1) (signal-placed _ _ (l .k) _ (l .at) (r .0) (omega arith) (c .before .before .before .if1 .left) (l .i) (l .inv .3));
+      biases = omega arith;
+    }
+
+enum-known-one : tie.Need-enum-known-one Inv-loop μ-loop
+enum-known-one c = search needs
+
+same-length : tie.Need-same-length Inv-loop μ-loop
+same-length c = search needs
+
+same-length-2 : tie.Need-same-length-2 Inv-loop μ-loop
+same-length-2 c = search needs
+
+returns : tie.Need-returns Inv-loop μ-loop
+returns c =
+    let l = c .before .before .before .before .before .before .before .before .before .before .loop in
+    let s = c .before .before .before .before .store-bias in
+    let r = read-refused (s .result) (c .match .keys2) in
+    absurd (signal-read _ _ (l .k) _ (l .at) (c .before .before .before .before .before .before .before .before .before .before .before .before .before .pre .0) (omega arith) (c .before .before .before .before .before .before .before .before .if1 .left) (l .i) (l .inv .3) (sym (r .is) ∙ s .ensures .says))
+
+add-k-2 : tie.Need-add-k-2 Inv-loop μ-loop
+add-k-2 c = search needs
+
+loop-less-2 : tie.Need-loop-less-2 Inv-loop μ-loop
+loop-less-2 c = search needs
+
+loop-again-2 : tie.Need-loop-again-2 Inv-loop μ-loop
+loop-again-2 c =
+    let l = c .before .before .before .before .before .before .before .before .before .before .before .before .loop in
+    let s = c .before .before .before .before .before .before .store-bias in (
+      omega arith,
+      omega arith,
+      omega arith,
+      signal-stored _ _ (l .k) _ (l .at) (c .before .before .before .before .before .before .before .before .before .before .before .before .before .before .before .pre .0) (omega arith) (c .before .before .before .before .before .before .before .before .before .before .if1 .left) (l .i) (l .inv .3)
+          (stored-answer put1230 (ap toldRead (c .before .one .given .1)) (s .ensures)),
+    )
+
+same-length-3 : tie.Need-same-length-3 Inv-loop μ-loop
+same-length-3 c = search needs
+
+same-length-4 : tie.Need-same-length-4 Inv-loop μ-loop
+same-length-4 c = search needs
+
+returns-2 : tie.Need-returns-2 Inv-loop μ-loop
+returns-2 c =
+    let l = c .before .loop in
+    done put1230 (l .inv .3) put1230-none (masked-none _ (l .k) _ (l .at) (omega arith) (omega arith))
+
+pub store-spec : {M : Type 1} → statement M
+store-spec =
+    tie.close
+    (tie.spec
+    Inv-loop
+    μ-loop
+    loop-holds
+    sub-if1
+    shr-if1
+    add-k
+    loop-less
+    loop-again
+    element-copy-out-store-bias
+    store-bias-requires
+    enum-known-one
+    same-length
+    same-length-2
+    returns
+    add-k-2
+    loop-less-2
+    loop-again-2
+    same-length-3
+    same-length-4
+    returns-2)

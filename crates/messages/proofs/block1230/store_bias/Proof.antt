@@ -1,0 +1,74 @@
+-- The bias is read, and the record that it makes is stored. Assumes nothing.
+use mathlib.Core.Path.{sym, ap, _∙_}
+use native.Mathlib.Omega.{arith}
+use Rattle.bits.specs.Answers.{toldSigned}
+use Rattle.messages.specs.ReadSteps.{put1230}
+use Rattle.messages.proofs.ArmLaws.{twos-cut}
+use Rattle.messages.proofs.BiasLaws.{bias-narrow}
+use Rattle.messages.proofs.PassLaws.{placed-one, stored-short}
+use Rattle.messages.proofs.PutLaws.{put1230-none}
+use Rattle.messages.proofs.Laws1230.{bias-cut, bias-read, bias-stored}
+use borrow.Author.Needs.{needs}
+use Rattle.messages.proofs.block1230.store_bias.Statement.{statement}
+use Rattle.messages.proofs.block1230.store_bias.Tie as tie
+
+read-twos-requires : tie.Need-read-twos-requires
+read-twos-requires c κs = search needs
+
+enum-known-bias : tie.Need-enum-known-bias
+enum-known-bias c = search needs
+
+returns : tie.Need-returns
+returns c =
+    let r = c .before .read-twos in
+    stored-short put1230 (bias-cut _ _ _ (twos-cut _ _ 16 (c .before .before .before .before .pre .few) (omega arith) (omega arith) (r .result) (r .ensures) (c .match .keys2))) (put1230-none _ _)
+
+slice-write-signals : tie.Need-slice-write-signals
+slice-write-signals c =
+    let e = sym (c .before .before .before .read-twos .ensures) ∙ ap toldSigned (c .before .bias .given .1) in
+    let h = placed-one (c .before .before .before .before .before .before .pre .placed) (bias-read _ _ _ e) in
+    omega arith
+
+cast-biases : tie.Need-cast-biases
+cast-biases c =
+    let e = sym (c .before .before .before .read-twos .ensures) ∙ ap toldSigned (c .before .bias .given .1) in
+    bias-narrow _ _ 16 (omega arith) e .0
+
+mul-t12 : tie.Need-mul-t12
+mul-t12 c = search needs
+
+slice-set-from-biases : tie.Need-slice-set-from-biases
+slice-set-from-biases c =
+    let e = sym (c .before .before .before .read-twos .ensures) ∙ ap toldSigned (c .before .bias .given .1) in
+    let h = placed-one (c .before .before .before .before .before .before .pre .placed) (bias-read _ _ _ e) in
+    omega arith
+
+add-t12 : tie.Need-add-t12
+add-t12 c = search needs
+
+same-length : tie.Need-same-length
+same-length c = search needs
+
+same-length-2 : tie.Need-same-length-2
+same-length-2 c = search needs
+
+returns-2 : tie.Need-returns-2
+returns-2 c =
+    let e = sym (c .before .before .before .read-twos .ensures) ∙ ap toldSigned (c .before .bias .given .1) in
+    bias-stored _ _ _ _ _ _ e (bias-narrow _ _ 16 (omega arith) e .1)
+
+pub store-bias-spec : {M : Type 1} → statement M
+store-bias-spec =
+    tie.close
+    (tie.spec
+    read-twos-requires
+    enum-known-bias
+    returns
+    slice-write-signals
+    cast-biases
+    mul-t12
+    slice-set-from-biases
+    add-t12
+    same-length
+    same-length-2
+    returns-2)

@@ -1,0 +1,220 @@
+// The bias block of message 1059.
+ghost use mathlib.Core.Path.{_≡_};
+ghost use Prim.Native.Nat.{ℕ, _*_, _≤_};
+ghost use lib.ListN.{length};
+ghost use Rattle.messages.specs.Reader.{many};
+ghost use Rattle.messages.specs.Block1059.{biasAt, satelliteAt, outcome1059, read1059};
+ghost use Rattle.messages.specs.Answers.{toldRead};
+ghost use Rattle.messages.specs.ReadSteps.{counts, Stored, lists1059, put1059, Ready1059};
+use crate::answer::BlockRead;
+use bits::field;
+use bits::field::Signed;
+use bits::field::Unsigned;
+
+// Reads the block from bit `start` on. The first places of the lists take its records, once all of it is read and they have room.
+pub fn read(
+    bytes: &[u8],
+    start: usize,
+    satellites: &mut [u8],
+    signals: &mut [u8],
+    biases: &mut [i16],
+) -> BlockRead
+    ensures { λ r. ⌜ outcome1059 (toldRead r) (now (satellites .exit)) (now (signals .exit)) (now (biases .exit)) ≡ read1059 (now (bytes .entry)) start (now (satellites .entry)) (now (signals .entry)) (now (biases .entry)) ⌝ }
+{
+    if 1023 < bytes.len() {
+        return BlockRead::Size;
+    }
+    if satellites.len() != signals.len() {
+        return BlockRead::Size;
+    }
+    if satellites.len() != biases.len() {
+        return BlockRead::Size;
+    }
+    // DF387: the number of satellites.
+    let Unsigned::Value(n, at) = field::read_unsigned(bytes, start, 6) else {
+        return BlockRead::Short(start);
+    };
+    let extent = measure(bytes, at, n as usize);
+    let BlockRead::Records { count, end: _ } = extent else {
+        return extent;
+    };
+    if satellites.len() < count {
+        return BlockRead::Room(count);
+    }
+    store(bytes, at, n as usize, satellites, signals, biases)
+}
+
+// ---- the first pass: how many records there are, and where they end
+
+// The n satellites from bit `start` on.
+fn measure(bytes: &[u8], start: usize, n: usize) -> BlockRead
+    requires { ⌜ (length (now bytes) ≤ 1023) × (n ≤ 63) ⌝ }
+    ensures { λ r. ⌜ toldRead r ≡ counts 0 (many (satelliteAt (now (bytes .entry))) n start) ⌝ }
+{
+    let mut at = start;
+    let mut i: usize = 0;
+    let mut k: usize = 0;
+    while k < n {
+        let one = measure_satellite(bytes, at, i);
+        let BlockRead::Records { count, end } = one else {
+            return one;
+        };
+        i = count;
+        at = end;
+        k += 1;
+    }
+    BlockRead::Records { count: i, end: at }
+}
+
+// One satellite, whose first record is record i.
+fn measure_satellite(bytes: &[u8], start: usize, i: usize) -> BlockRead
+    requires { ⌜ (length (now bytes) ≤ 1023) × (i ≤ 1953) ⌝ }
+    ensures { λ r. ⌜ toldRead r ≡ counts i (satelliteAt (now (bytes .entry)) start) ⌝ }
+{
+    // DF068: the satellite.
+    let Unsigned::Value(_, at) = field::read_unsigned(bytes, start, 6) else {
+        return BlockRead::Short(start);
+    };
+    // DF379: the number of its biases.
+    let Unsigned::Value(n, at) = field::read_unsigned(bytes, at, 5) else {
+        return BlockRead::Short(at);
+    };
+    measure_biases(bytes, at, n as usize, i)
+}
+
+// The n biases of one satellite. Each has 19 bits, so none of them has to be read.
+fn measure_biases(bytes: &[u8], start: usize, n: usize, i: usize) -> BlockRead
+    requires { ⌜ (length (now bytes) ≤ 1023) × (start ≤ length (now bytes) * 8) × (n ≤ 31) × (i ≤ 1953) ⌝ }
+    ensures { λ r. ⌜ ((a : ℕ) → toldRead r ≡ counts i (many (biasAt (now (bytes .entry)) a) n start)) ⌝ }
+{
+    let all = bytes.len() * 8;
+    let whole = (all - start) / 19;
+    if n <= whole {
+        return BlockRead::Records {
+            count: i + n,
+            end: start + n * 19,
+        };
+    }
+    let at = start + whole * 19;
+    if all - at < 5 {
+        return BlockRead::Short(at);
+    }
+    BlockRead::Short(at + 5)
+}
+
+// ---- the second pass: the records, into lists that have room for them
+
+// The n satellites from bit `start` on.
+fn store(
+    bytes: &[u8],
+    start: usize,
+    n: usize,
+    satellites: &mut [u8],
+    signals: &mut [u8],
+    biases: &mut [i16],
+) -> BlockRead
+    requires { ⌜ Ready1059 (now bytes) 0 (many (satelliteAt (now bytes)) n start) (now satellites) (now signals) (now biases) ⌝ }
+    ensures { λ r. ⌜ Stored put1059 0 (many (satelliteAt (now (bytes .entry))) n start) (toldRead r) (lists1059 (now (satellites .entry)) (now (signals .entry)) (now (biases .entry))) (lists1059 (now (satellites .exit)) (now (signals .exit)) (now (biases .exit))) ⌝ }
+{
+    let mut at = start;
+    let mut i: usize = 0;
+    let mut k: usize = 0;
+    while k < n {
+        let one = store_satellite(bytes, at, i, satellites, signals, biases);
+        let BlockRead::Records { count, end } = one else {
+            return one;
+        };
+        i = count;
+        at = end;
+        k += 1;
+    }
+    BlockRead::Records { count: i, end: at }
+}
+
+// One satellite, whose first record is record i.
+fn store_satellite(
+    bytes: &[u8],
+    start: usize,
+    i: usize,
+    satellites: &mut [u8],
+    signals: &mut [u8],
+    biases: &mut [i16],
+) -> BlockRead
+    requires { ⌜ Ready1059 (now bytes) i (satelliteAt (now bytes) start) (now satellites) (now signals) (now biases) ⌝ }
+    ensures { λ r. ⌜ Stored put1059 i (satelliteAt (now (bytes .entry)) start) (toldRead r) (lists1059 (now (satellites .entry)) (now (signals .entry)) (now (biases .entry))) (lists1059 (now (satellites .exit)) (now (signals .exit)) (now (biases .exit))) ⌝ }
+{
+    // DF068: the satellite.
+    let Unsigned::Value(satellite, at) = field::read_unsigned(bytes, start, 6) else {
+        return BlockRead::Short(start);
+    };
+    // DF379: the number of its biases.
+    let Unsigned::Value(n, at) = field::read_unsigned(bytes, at, 5) else {
+        return BlockRead::Short(at);
+    };
+    store_biases(
+        bytes,
+        at,
+        satellite as u8,
+        n as usize,
+        i,
+        satellites,
+        signals,
+        biases,
+    )
+}
+
+// The n biases of one satellite.
+fn store_biases(
+    bytes: &[u8],
+    start: usize,
+    satellite: u8,
+    n: usize,
+    first: usize,
+    satellites: &mut [u8],
+    signals: &mut [u8],
+    biases: &mut [i16],
+) -> BlockRead
+    requires { ⌜ Ready1059 (now bytes) first (many (biasAt (now bytes) satellite) n start) (now satellites) (now signals) (now biases) ⌝ }
+    ensures { λ r. ⌜ Stored put1059 first (many (biasAt (now (bytes .entry)) satellite) n start) (toldRead r) (lists1059 (now (satellites .entry)) (now (signals .entry)) (now (biases .entry))) (lists1059 (now (satellites .exit)) (now (signals .exit)) (now (biases .exit))) ⌝ }
+{
+    let mut at = start;
+    let mut i = first;
+    let mut k: usize = 0;
+    while k < n {
+        let one = store_bias(bytes, at, satellite, i, satellites, signals, biases);
+        let BlockRead::Records { count, end } = one else {
+            return one;
+        };
+        i = count;
+        at = end;
+        k += 1;
+    }
+    BlockRead::Records { count: i, end: at }
+}
+
+// One bias, record i.
+fn store_bias(
+    bytes: &[u8],
+    start: usize,
+    satellite: u8,
+    i: usize,
+    satellites: &mut [u8],
+    signals: &mut [u8],
+    biases: &mut [i16],
+) -> BlockRead
+    requires { ⌜ Ready1059 (now bytes) i (biasAt (now bytes) satellite start) (now satellites) (now signals) (now biases) ⌝ }
+    ensures { λ r. ⌜ Stored put1059 i (biasAt (now (bytes .entry)) satellite start) (toldRead r) (lists1059 (now (satellites .entry)) (now (signals .entry)) (now (biases .entry))) (lists1059 (now (satellites .exit)) (now (signals .exit)) (now (biases .exit))) ⌝ }
+{
+    // DF380: the signal.
+    let Unsigned::Value(signal, at) = field::read_unsigned(bytes, start, 5) else {
+        return BlockRead::Short(start);
+    };
+    // DF383: the bias.
+    let Signed::Value(bias, end) = field::read_twos(bytes, at, 14) else {
+        return BlockRead::Short(at);
+    };
+    satellites[i] = satellite;
+    signals[i] = signal as u8;
+    biases[i] = bias as i16;
+    BlockRead::Records { count: i + 1, end }
+}
