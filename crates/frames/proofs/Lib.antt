@@ -16,3 +16,12 @@ pub mod RoundTrip
 pub mod RtcmLaws
 pub mod ToldLaws
 pub mod Examples
+pub mod SeamLaws
+pub mod SeenLaws
+pub mod TurnLaws
+pub mod LookLaws
+pub mod SightLaws
+pub mod WalkLaws
+pub mod FedToldLaws
+pub mod ProgressLaws
+pub mod ScanExamples

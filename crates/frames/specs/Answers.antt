@@ -1,14 +1,22 @@
 -- What each answer of the code tells. Assumes nothing.
 use mathlib.Core.Option.{Option, none, some}
 use Prim.Native.Nat.{ℕ}
-use Rattle.bits.specs.Told.{Told, Accepted, size, room, notValid, incomplete}
+use Rattle.bits.specs.Told.{Told, Accepted, size, room, notValid, incomplete, state}
 use Rattle.frames.specs.Frame.{Whole}
+use Rattle.frames.specs.Call as call
+use Rattle.frames.specs.Call.{FedAnswer}
+use Rattle.frames.specs.Walk as walk
+use Rattle.frames.specs.Walk.{Place}
 use Rattle.frames.specs.declared.frame.Number.{Number}
 use Rattle.frames.specs.declared.frame.Number.the-variants as N
 use Rattle.frames.specs.declared.frame.Checked.{Checked}
 use Rattle.frames.specs.declared.frame.Checked.the-variants as C
 use Rattle.frames.specs.declared.frame.Framed.{Framed}
 use Rattle.frames.specs.declared.frame.Framed.the-variants as F
+use Rattle.frames.specs.declared.scan.Next.{Next}
+use Rattle.frames.specs.declared.scan.Next.the-variants as X
+use Rattle.frames.specs.declared.scanner.Fed.{Fed}
+use Rattle.frames.specs.declared.scanner.Fed.the-variants as D
 
 abbrev pub toldNumber : Number → Option ℕ
 toldNumber N.Absent = none
@@ -23,3 +31,14 @@ abbrev pub toldFramed : Framed → Told ℕ
 toldFramed (F.Length n) = Accepted n
 toldFramed F.Size = size
 toldFramed (F.Room n) = room n
+
+abbrev pub toldNext : Next → Told Place
+toldNext (X.Frame p l) = Accepted (walk.Frame p l)
+toldNext (X.Held p) = Accepted (walk.Held p)
+
+abbrev pub toldFed : Fed → Told FedAnswer
+toldFed (D.More t s h) = Accepted (call.More t s h)
+toldFed (D.Frame l t s h) = Accepted (call.Frame l t s h)
+toldFed D.Size = size
+toldFed D.State = state
+toldFed (D.Room n) = room n

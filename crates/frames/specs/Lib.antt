@@ -7,3 +7,5 @@ pub mod Part
 pub mod Frame
 pub mod Rtcm
 pub mod Answers
+pub mod Walk
+pub mod Steps

@@ -1,4 +1,6 @@
-// One frame, framing data, and the scan of a stream.
+// Frames in a stream of bytes: one frame, the whole-stream scan, and the scanner over pieces.
 //
 // `specs/` says what each function answers: read it first. A refused call writes nothing.
 pub mod frame;
+pub mod scan;
+pub mod scanner;

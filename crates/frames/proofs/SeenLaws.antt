@@ -1,0 +1,150 @@
+-- What the framing of RTCM 3 decides at a place, by what the code has in hand there. Assumes nothing.
+use mathlib.Core.Path.{_≡_, refl, sym, ap, _∙_, subst}
+use mathlib.Core.Bool.{Bool, true, false, cond}
+use mathlib.Core.List.{List, _++_}
+use Prim.Native.Nat.{ℕ, _+_, _-_, _*_, _%_, _^_, _≤_, _<_}
+use native.Mathlib.Nat.{add-zero}
+use native.Mathlib.Omega.{arith}
+use native.Mathlib.Decide.{decLt}
+use lib.ListN.{length, getD, take, drop, length-append, length-drop}
+use lib.Seq.{getD-drop}
+use lib.Dec.{leb}
+use borrow.Author.Tests.{le-leb, lt-leb, leb-true, leb-false, eq-eqb, ne-eqb}
+use Rattle.bits.specs.Field.{field}
+use Rattle.bits.specs.Crc.{crc}
+use Rattle.bits.proofs.PartLaws.{field-drop}
+use Rattle.frames.specs.Scan.{Decision, Skip, Take, Wait}
+use Rattle.frames.specs.Frame.{dataLength, ownSum, sentSum}
+use Rattle.frames.specs.Rtcm.{Why, NotD3, Kind, rtcm}
+use Rattle.frames.specs.Steps.{Start, seen, seenBy}
+use Rattle.frames.specs.declared.scan.Seen.{Seen}
+use Rattle.frames.specs.declared.scan.Seen.the-variants.{Incomplete, NotValid, Good}
+use Rattle.frames.proofs.FrameLaws.{length-at, three-field}
+use Rattle.frames.proofs.RtcmLaws.{rtcm-lawful}
+use Rattle.frames.proofs.SeamLaws.{at-left, at-right}
+
+-- ---- the first D3 of two lists, one behind the other
+
+module _ (h p : List ℕ) (i j : ℕ) where
+  -- it stands in the second, from a place there on
+  pub start-right : length h ≤ i → Start p (i - length h) j → Start (h ++ p) i (length h + j)
+  start-right l s =
+      record {
+        from = omega (arith, s .from);
+        within = rw length-append (omega (arith, s .within));
+        none = λ k a b e. s .none (k - length h) (omega arith) (omega arith) (at-right h p k (omega arith) ∙ e);
+        there = λ a.
+            let m : length h + j - length h ≡ j = omega arith in
+            sym (at-right h p (length h + j) (omega arith)) ∙ ap (λ k. getD p k 0) m ∙ s .there (omega (arith, length-append h p));
+      }
+
+  -- it stands in the first
+  pub start-left : j < length h → Start h i j → Start (h ++ p) i j
+  start-left l s =
+      record {
+        from = s .from;
+        within = rw length-append (omega arith);
+        none = λ k a b e. s .none k a b (at-left h p k (omega arith) ∙ e);
+        there = λ a. sym (at-left h p j l) ∙ s .there l;
+      }
+
+-- the first has none from place i on
+pub start-both : (h p : List ℕ) (i j k : ℕ) → length h ≤ j → Start h i j → Start p 0 k → Start (h ++ p) i (length h + k)
+start-both h p i j k l s t =
+    let z : 0 ≡ length h - length h = omega arith in
+    let r = start-right h p (length h) k (omega arith) (subst (λ n. Start p n k) z t) in
+    record {
+      from = omega (arith, s .from, s .within);
+      within = r .within;
+      none = λ m a b e. go m a b e (decLt m (length h));
+      there = r .there;
+    }
+  where
+    go : (m : ℕ) → m < length h + k → i ≤ m → getD (h ++ p) m 0 ≡ 0xD3 → Dec (m < length h) → ⊥
+    go m a b e (yes q) = s .none m (omega arith) b (at-left h p m q ∙ e)
+    go m a b e (no q) = t .none (m - length h) (omega arith) (omega arith) (at-right h p m (omega arith) ∙ e)
+
+-- ---- what is seen
+
+module _ (t : List ℕ) (first : getD t 0 0 ≡ 0xD3) where
+  few : length t < 6 → Incomplete ≡ seen t
+  unfolding seen rtcm
+  few l = rw (eq-eqb (getD t 0 0) 0xD3 first, lt-leb (dataLength t + 6) (length t) (omega arith))
+
+  cut : length t < dataLength t + 6 → Incomplete ≡ seen t
+  unfolding seen rtcm
+  cut l = rw (eq-eqb (getD t 0 0) 0xD3 first, lt-leb (dataLength t + 6) (length t) l)
+
+  module _ (l : dataLength t + 6 ≤ length t) where
+    good : ownSum t ≡ sentSum t → Good (dataLength t + 6) ≡ seen t
+    unfolding seen rtcm
+    good q = rw (eq-eqb (getD t 0 0) 0xD3 first, le-leb (dataLength t + 6) (length t) l, eq-eqb (ownSum t) (sentSum t) q)
+
+    bad : (ownSum t ≡ sentSum t → ⊥) → NotValid (dataLength t + 6) ≡ seen t
+    unfolding seen rtcm
+    bad q = rw (eq-eqb (getD t 0 0) 0xD3 first, le-leb (dataLength t + 6) (length t) l, ne-eqb (ownSum t) (sentSum t) q)
+
+pub first-is : (s : List ℕ) (i : ℕ) → getD (drop i s) 0 0 ≡ getD s i 0
+first-is s i = getD-drop i s 0 0 ∙ ap (λ k. getD s k 0) (add-zero i)
+
+-- three bytes as they are read
+pub three-here : (s : List ℕ) (i : ℕ) {a b c : ℕ} → a ≡ getD s i 0 → b ≡ getD s (i + 1) 0 → c ≡ getD s (i + 2) 0 → a < 256 → b < 256 → c < 256
+    → a * 0x10000 + b * 0x100 + c ≡ field s (i * 8) 24
+three-here s i ea eb ec la lb lc = omega (arith, three-field s i)
+
+-- the three bytes r at place i give the length
+pub length-here : (s : List ℕ) (i r : ℕ) → r ≡ field s (i * 8) 24 → r % 2 ^ 10 ≡ dataLength (drop i s)
+length-here s i r e = length-at (drop i s) r (e ∙ ap (λ k. field s k 24) (sym (add-zero (i * 8))) ∙ sym (field-drop i s 0 24))
+
+-- at place i of s stands a D3; the length is n, the sum of the bytes is own and the sum sent is sent
+module _ (s : List ℕ) (i : ℕ) (e : getD s i 0 ≡ 0xD3) where
+  start : getD (drop i s) 0 0 ≡ 0xD3
+  start = first-is s i ∙ e
+
+  pub seen-few : length s < i + 6 → Incomplete ≡ seen (drop i s)
+  seen-few l = few (drop i s) start (rw length-drop (omega arith))
+
+  module _ (n : ℕ) (f : n ≡ dataLength (drop i s)) where
+    pub seen-cut : length s < i + (n + 6) → Incomplete ≡ seen (drop i s)
+    seen-cut l = cut (drop i s) start (rw (length-drop, ← f) (omega arith))
+
+    module _ (own sent : ℕ) (l : i + (n + 6) ≤ length s) (eo : own ≡ crc (take (n + 3) (drop i s))) (es : sent ≡ field s ((i + n + 3) * 8) 24) where
+      own-is : ownSum (drop i s) ≡ own
+      own-is = ap (λ k. crc (take (k + 3) (drop i s))) (sym f) ∙ sym eo
+
+      sent-is : sentSum (drop i s) ≡ sent
+      sent-is =
+          let m : i * 8 + (n + 3) * 8 ≡ (i + n + 3) * 8 = omega arith in
+          ap (λ k. field (drop i s) ((k + 3) * 8) 24) (sym f) ∙ field-drop i s ((n + 3) * 8) 24 ∙ ap (λ k. field s k 24) m ∙ sym es
+
+      fits : dataLength (drop i s) + 6 ≤ length (drop i s)
+      fits = rw (length-drop, ← f) (omega arith)
+
+      pub seen-good : own ≡ sent → Good (n + 6) ≡ seen (drop i s)
+      seen-good q = ap (λ k. Good (k + 6)) f ∙ good (drop i s) start fits (own-is ∙ q ∙ sym sent-is)
+
+      pub seen-bad : (own ≡ sent → ⊥) → NotValid (n + 6) ≡ seen (drop i s)
+      seen-bad q = ap (λ k. NotValid (k + 6)) f ∙ bad (drop i s) start fits (λ r. q (sym own-is ∙ r ∙ sent-is))
+
+-- ---- what it says
+
+-- as the laws of a call take it
+abbrev pub Says : List ℕ → Seen → Type 0
+Says s Incomplete = length s < rtcm .need s
+Says s (NotValid n) = (n ≡ rtcm .need s) × (rtcm .need s ≤ length s) × (w : Why) × (rtcm .verdict s ≡ Skip w)
+Says s (Good n) = (n ≡ rtcm .need s) × (rtcm .need s ≤ length s) × (k : Kind) × (rtcm .verdict s ≡ Take k n)
+
+says-by : (s : List ℕ) (b : Bool) → leb (rtcm .need s) (length s) ≡ b → (q : Decision Why Kind) → rtcm .verdict s ≡ q → Says s (seenBy (cond b q Wait) (rtcm .need s))
+says-by s true e (Skip w) f = (refl, leb-true _ _ e, w, f)
+says-by s true e (Take k n) f = (rtcm-lawful .taken s k n f, leb-true _ _ e, k, f)
+says-by s true e Wait f = absurd (rtcm-lawful .decided s f)
+says-by s false e q f = leb-false _ _ e
+
+pub says : (s : List ℕ) (r : Seen) → r ≡ seen s → Says s r
+unfolding seen
+says s r e = subst (Says s) (sym e) (says-by s (leb (rtcm .need s) (length s)) refl (rtcm .verdict s) refl)
+
+-- a byte that is not D3 is decided by itself
+pub not-d3 : (s : List ℕ) (j : ℕ) → (getD s j 0 ≡ 0xD3 → ⊥) → (rtcm .need (drop j s) ≡ 1) × ((w : Why) × (rtcm .verdict (drop j s) ≡ Skip w))
+unfolding rtcm
+not-d3 s j n = (rw (first-is s j, ne-eqb _ _ n), (NotD3, rw (first-is s j, ne-eqb _ _ n)))

@@ -1,0 +1,35 @@
+-- What private functions of the code compute. No promise to a caller rests on this file. Assumes nothing.
+use mathlib.Core.Path.{_≡_}
+use mathlib.Core.List.{List}
+use Prim.Native.Nat.{ℕ, _≤_, _<_}
+use lib.ListN.{length, getD}
+use Rattle.frames.specs.Scan.{Decision, Skip, Take, Wait}
+use Rattle.frames.specs.Framing.{decide}
+use Rattle.frames.specs.Feed as fed
+use Rattle.frames.specs.Rtcm.{Why, Kind, rtcm}
+use Rattle.frames.specs.declared.scan.Seen.{Seen}
+use Rattle.frames.specs.declared.scan.Seen.the-variants.{Incomplete, NotValid, Good}
+use Rattle.frames.specs.declared.scan.Sight.{Sight}
+use Rattle.frames.specs.declared.scan.Sight.the-variants.{More, Frame}
+
+-- j is the first place of a D3 in s from place i on, or the end
+pub record Start (s : List ℕ) (i j : ℕ) : Type 0 where
+  pub from : i ≤ j
+  pub within : j ≤ length s
+  pub none : (k : ℕ) → k < j → i ≤ k → getD s k 0 ≡ 0xD3 → ⊥
+  pub there : j < length s → getD s j 0 ≡ 0xD3
+
+-- a decision, and the n bytes that it was made by
+abbrev pub seenBy : Decision Why Kind → ℕ → Seen
+seenBy (Skip w) n = NotValid n
+seenBy (Take k m) n = Good m
+seenBy Wait n = Incomplete
+
+-- what is decided at the front of s
+unfoldable pub seen : List ℕ → Seen
+seen s = seenBy (decide rtcm s) (rtcm .need s)
+
+-- the numbers of what a call gives: bytes skipped; or bytes skipped, the frame's length, and bytes taken
+abbrev pub sight : {W K : Type 0} → fed.Fed W K → Sight
+sight (fed.More t is h) = More (length is)
+sight (fed.Frame t is k f h) = Frame (length is) (length f) t

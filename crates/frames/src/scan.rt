@@ -1,0 +1,185 @@
+// The whole-stream scan as a call, and the search for a frame that it shares with the scanner.
+//
+// The search looks at bytes that are held and a piece behind them as one stream, which is nowhere copied together.
+ghost use mathlib.Core.Path.{_≡_};
+ghost use mathlib.Core.List.{_++_};
+ghost use Prim.Native.Nat.{ℕ, _+_, _*_, _^_, _≤_, _<_, max};
+ghost use lib.ListN.{length, getD, take, drop};
+ghost use Rattle.bits.specs.Field.{field};
+ghost use Rattle.bits.specs.Crc.{crc};
+ghost use Rattle.frames.specs.Framing.{decide};
+ghost use Rattle.frames.specs.Feed.{feed};
+ghost use Rattle.frames.specs.Rtcm.{rtcm};
+ghost use Rattle.frames.specs.Walk.{nextFrom};
+ghost use Rattle.frames.specs.Answers.{toldNext};
+ghost use Rattle.frames.specs.Steps.{Start, seen, sight};
+use bits::crc;
+
+// What the scan comes to next: a frame, with its place and its length; or the place from which on the bytes are held.
+pub enum Next {
+    Frame { place: usize, length: usize },
+    Held(usize),
+}
+
+// The next frame from a place on. A scan of all the bytes starts at place 0, and goes on behind each frame.
+pub fn next_frame(bytes: &[u8], from: usize) -> Next
+    ensures { λ r. ⌜ toldNext r ≡ nextFrom rtcm (now (bytes .entry)) from ⌝ }
+{
+    let all = bytes.len();
+    if all <= from {
+        return Next::Held(all);
+    }
+    match look(&bytes[0..0], &bytes[from..all]) {
+        Sight::More(i) => Next::Held(from + i),
+        Sight::Frame(i, length, _) => Next::Frame {
+            place: from + i,
+            length,
+        },
+    }
+}
+
+// What a search finds. More: no frame, and so many bytes to skip. Frame: the bytes to skip before it, its length, and the
+// bytes of the piece that were needed.
+pub(crate) enum Sight {
+    More(usize),
+    Frame(usize, usize, usize),
+}
+
+// The first frame of the held bytes with the piece behind them.
+pub(crate) fn look(held: &[u8], piece: &[u8]) -> Sight
+    requires { ⌜ length (now held) + length (now piece) < 2 ^ 64 ⌝ }
+    ensures { λ r. ⌜ r ≡ sight (feed (decide rtcm) (now (held .entry)) (now (piece .entry))) ⌝ }
+{
+    let h = held.len();
+    let all = h + piece.len();
+    let mut i: usize = 0;
+    let mut end = h;
+    while i < all {
+        let j = next_start(held, piece, i);
+        if all <= j {
+            return Sight::More(j);
+        }
+        match seen_at(held, piece, j) {
+            Seen::Incomplete => {
+                return Sight::More(j);
+            }
+            Seen::Good(n) => {
+                return Sight::Frame(j, n, most(end, j + n) - h);
+            }
+            Seen::NotValid(n) => {
+                end = most(end, j + n);
+                i = j + 1;
+            }
+        }
+    }
+    Sight::More(i)
+}
+
+// The place of the first D3 from place i on, or the end.
+fn next_start(held: &[u8], piece: &[u8], i: usize) -> usize
+    requires { ⌜ (i ≤ length (now held) + length (now piece)) × (length (now held) + length (now piece) < 2 ^ 64) ⌝ }
+    ensures { λ r. ⌜ Start (now (held .entry) ++ now (piece .entry)) i r ⌝ }
+{
+    let h = held.len();
+    if h <= i {
+        return h + next_d3(piece, i - h);
+    }
+    let j = next_d3(held, i);
+    if j < h {
+        return j;
+    }
+    h + next_d3(piece, 0)
+}
+
+// The place of the first D3 of a part from a place on, or its end.
+fn next_d3(part: &[u8], from: usize) -> usize
+    requires { ⌜ from ≤ length (now part) ⌝ }
+    ensures { λ r. ⌜ Start (now (part .entry)) from r ⌝ }
+{
+    let mut i = from;
+    while i < part.len() {
+        if part[i] == 0xD3 {
+            return i;
+        }
+        i += 1;
+    }
+    i
+}
+
+// What the frame check says of a D3: incomplete; or not valid, or good, by so many bytes.
+enum Seen {
+    Incomplete,
+    NotValid(usize),
+    Good(usize),
+}
+
+// The frame check of the D3 at place i. No sum is taken before all bytes that the length asks for are there.
+fn seen_at(held: &[u8], piece: &[u8], i: usize) -> Seen
+    requires { ⌜ (i < length (now held) + length (now piece)) × (length (now held) + length (now piece) < 2 ^ 64) × (getD (now held ++ now piece) i 0 ≡ 0xD3) ⌝ }
+    ensures { λ r. ⌜ r ≡ seen (drop i (now (held .entry) ++ now (piece .entry))) ⌝ }
+{
+    let left = held.len() + piece.len() - i;
+    if left < 6 {
+        return Seen::Incomplete;
+    }
+    let n = (three_at(held, piece, i) % 1024) as usize;
+    if left < n + 6 {
+        return Seen::Incomplete;
+    }
+    let e = i + n + 3;
+    if sum_of(held, piece, i, n + 3) == three_at(held, piece, e) {
+        return Seen::Good(n + 6);
+    }
+    Seen::NotValid(n + 6)
+}
+
+// The checksum of n bytes from place i on, taken where they lie.
+fn sum_of(held: &[u8], piece: &[u8], i: usize, n: usize) -> u32
+    requires { ⌜ (i + n ≤ length (now held) + length (now piece)) × (length (now held) + length (now piece) < 2 ^ 64) ⌝ }
+    ensures { λ r. ⌜ r ≡ crc (take n (drop i (now (held .entry) ++ now (piece .entry)))) ⌝ }
+{
+    let h = held.len();
+    let e = i + n;
+    if h <= i {
+        return crc::crc24q(&piece[i - h..e - h]);
+    }
+    if e <= h {
+        return crc::crc24q(&held[i..e]);
+    }
+    crc::crc24q_from(crc::crc24q(&held[i..h]), &piece[0..e - h])
+}
+
+// The three bytes from place i on, highest first.
+fn three_at(held: &[u8], piece: &[u8], i: usize) -> u32
+    requires { ⌜ (i + 3 ≤ length (now held) + length (now piece)) × (length (now held) + length (now piece) < 2 ^ 64) ⌝ }
+    ensures { λ r. ⌜ (r ≡ field (now (held .entry) ++ now (piece .entry)) (i * 8) 24) × (r < 2 ^ 24) ⌝ }
+{
+    let a = byte_at(held, piece, i);
+    let b = byte_at(held, piece, i + 1);
+    let c = byte_at(held, piece, i + 2);
+    a * 0x1_0000 + b * 0x100 + c
+}
+
+// The byte at place i.
+fn byte_at(held: &[u8], piece: &[u8], i: usize) -> u32
+    requires { ⌜ i < length (now held) + length (now piece) ⌝ }
+    ensures { λ r. ⌜ (r ≡ getD (now (held .entry) ++ now (piece .entry)) i 0) × (r < 256) ⌝ }
+{
+    let h = held.len();
+    if i < h {
+        return wide(held[i]);
+    }
+    wide(piece[i - h])
+}
+
+fn wide(x: u8) -> u32
+    ensures { λ r. ⌜ (r ≡ x) × (r < 256) ⌝ }
+{
+    x as u32
+}
+
+fn most(a: usize, b: usize) -> usize
+    ensures { λ r. ⌜ r ≡ max a b ⌝ }
+{
+    if a < b { b } else { a }
+}

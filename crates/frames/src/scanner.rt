@@ -1,0 +1,129 @@
+// The scanner: a stream comes in pieces, and the bytes that wait for more are held in an area that the caller lends.
+ghost use mathlib.Core.Path.{_≡_};
+ghost use mathlib.Core.List.{_++_};
+ghost use Prim.Native.Nat.{_+_, _-_, _^_, _≤_, _<_};
+ghost use lib.ListN.{length, take, drop};
+ghost use Rattle.bits.specs.Onto.{onto};
+ghost use Rattle.frames.specs.Rtcm.{rtcm};
+ghost use Rattle.frames.specs.Call.{outcome, feedOf};
+ghost use Rattle.frames.specs.Answers.{toldFed};
+use crate::frame;
+use crate::scan;
+
+// What a call answers: More, or a frame at the front of the output, with the bytes taken of the piece and the bytes
+// skipped in this call, and the held count now; or a refusal.
+pub enum Fed {
+    More {
+        taken: usize,
+        skipped: usize,
+        held: usize,
+    },
+    Frame {
+        length: usize,
+        taken: usize,
+        skipped: usize,
+        held: usize,
+    },
+    Size,
+    State,
+    // Carries the 1,029 bytes that the output needs.
+    Room(usize),
+}
+
+// The held count of a fresh scanner.
+pub fn fresh() -> usize
+    ensures { λ r. ⌜ r ≡ 0 ⌝ }
+{
+    0
+}
+
+// Feeds a piece to the scanner whose held bytes are the first `count` of the area `held`. What a call does not take of
+// the piece is to be offered again, until the answer is More.
+pub fn feed(held: &mut [u8], count: usize, piece: &[u8], out: &mut [u8]) -> Fed
+    ensures { λ r. ⌜ outcome (toldFed r) (now (held .exit)) (now (out .exit)) ≡ feedOf rtcm (now (held .entry)) count (now (piece .entry)) (now (out .entry)) ⌝ }
+{
+    if held.len() != 1029 {
+        return Fed::Size;
+    }
+    if 1029 < count {
+        return Fed::State;
+    }
+    if 65536 < piece.len() {
+        return Fed::Size;
+    }
+    if out.len() < 1029 {
+        return Fed::Room(1029);
+    }
+    match scan::look(&held[0..count], piece) {
+        scan::Sight::More(i) => {
+            let n = slide(held, count, piece, i);
+            Fed::More {
+                taken: piece.len(),
+                skipped: i,
+                held: n,
+            }
+        }
+        scan::Sight::Frame(skipped, length, taken) => {
+            let looked = &piece[0..taken];
+            gather(out, &held[0..count], looked, skipped, length);
+            let n = slide(held, count, looked, skipped + length);
+            Fed::Frame {
+                length,
+                taken,
+                skipped,
+                held: n,
+            }
+        }
+    }
+}
+
+// Writes n bytes from place i on, of the held bytes with the piece behind them, to the front of the output.
+fn gather(out: &mut [u8], held: &[u8], piece: &[u8], i: usize, n: usize)
+    requires { ⌜ (n ≤ length (now out)) × (i + n ≤ length (now held) + length (now piece)) × (length (now held) + length (now piece) < 2 ^ 64) ⌝ }
+    ensures { λ _. ⌜ now (out .exit) ≡ onto (take n (drop i (now (held .entry) ++ now (piece .entry)))) (now (out .entry)) ⌝ }
+{
+    let h = held.len();
+    let e = i + n;
+    if h <= i {
+        frame::put_at(&piece[i - h..e - h], out, 0);
+        return;
+    }
+    if e <= h {
+        frame::put_at(&held[i..e], out, 0);
+        return;
+    }
+    frame::put_at(&held[i..h], out, 0);
+    frame::put_at(&piece[0..e - h], out, h - i);
+}
+
+// Holds what stands from place i on, of the held bytes with the piece behind them, and tells how many bytes that are.
+fn slide(held: &mut [u8], count: usize, piece: &[u8], i: usize) -> usize
+    requires { ⌜ (count ≤ length (now held)) × (i ≤ count + length (now piece)) × (count + length (now piece) ≤ i + length (now held)) × (count + length (now piece) < 2 ^ 64) ⌝ }
+    ensures { λ r. ⌜ (r ≡ count + length (now (piece .entry)) - i) × (now (held .exit) ≡ onto (drop i (take count (now (held .entry)) ++ now (piece .entry))) (now (held .entry))) ⌝ }
+{
+    let n = count + piece.len() - i;
+    if i == 0 {
+        frame::put_at(piece, held, count);
+        return n;
+    }
+    if count <= i {
+        frame::put_at(&piece[i - count..piece.len()], held, 0);
+        return n;
+    }
+    let m = count - i;
+    shift(held, i, m);
+    frame::put_at(piece, held, m);
+    n
+}
+
+// Moves n bytes from place i on to the front.
+fn shift(held: &mut [u8], i: usize, n: usize)
+    requires { ⌜ i + n ≤ length (now held) ⌝ }
+    ensures { λ _. ⌜ now (held .exit) ≡ take n (drop i (now (held .entry))) ++ drop n (now (held .entry)) ⌝ }
+{
+    let mut k: usize = 0;
+    while k < n {
+        held[k] = held[i + k];
+        k += 1;
+    }
+}
