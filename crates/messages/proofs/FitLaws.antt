@@ -56,7 +56,7 @@ narrow-signal (entry m b l ∷ t) n w e =
     go ih h true q e = omega (arith, eqb-true m n q)
     go ih h false q e = ih e
 
-signal-fits : (e g : ℕ) → isSignal1059 e g ≡ true → g < 2 ^ 5
+pub signal-fits : (e g : ℕ) → isSignal1059 e g ≡ true → g < 2 ^ 5
 unfolding isSignal1059 signals1059
 signal-fits e g h = narrow-signal (getD editions e []) g (narrow-at editions e narrow-editions) h
 

@@ -9,7 +9,7 @@ use Rattle.bits.specs.Field.{field, reading}
 use Rattle.bits.specs.Fields.{total}
 use Rattle.bits.proofs.FieldsLaws.{total-append}
 use Rattle.messages.specs.Every.{Every}
-use Rattle.messages.specs.Records.{Rec1059, rec1059, Rec1230, signalOf1230}
+use Rattle.messages.specs.Records.{Rec1059, Rec1230, signalOf1230}
 use Rattle.messages.specs.Block1059.{block1059}
 use Rattle.messages.specs.Block1230.{maskSignals, masked, block1230}
 use Rattle.messages.specs.Write1059.{biasFields}
@@ -19,11 +19,7 @@ use Rattle.messages.proofs.Biases1230.{biases-stand}
 use Rattle.messages.proofs.MaskedLaws.{masked-few}
 use Rattle.messages.proofs.SatellitesStand.{Sound, satFields, block-stands}
 use Rattle.messages.proofs.SatelliteRecords.{block-satellites}
-
-total-biases : (rs : List Rec1059) → total (biasFields rs) ≡ length rs * 19
-unfolding total biasFields
-total-biases [] = omega arith
-total-biases (rec1059 a g z ∷ rs) = omega (arith, total-biases rs)
+use Rattle.messages.proofs.Fields1059Laws.{total-biases}
 
 -- a satellite takes 11 bits and each record 19, and it has at most 31
 pub record Taken (xs : List Sat) : Type 0 where

@@ -17,4 +17,7 @@ pub mod Raw1230
 pub mod MarkedExamples
 pub mod Answers
 pub mod ReadSteps
+pub mod Put
+pub mod Steps1059
+pub mod Steps1230
 pub mod Columns

@@ -5,5 +5,8 @@ pub mod answer;
 pub mod bias;
 pub mod block1059;
 pub mod block1230;
+mod put;
 pub mod signals;
 pub mod signals1059;
+pub mod write1059;
+pub mod write1230;

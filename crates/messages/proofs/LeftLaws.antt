@@ -1,0 +1,89 @@
+-- A run of fields that is put part by part: what is left to put. Assumes nothing.
+use mathlib.Core.Path.{_≡_, refl, sym, ap, ap₂, subst, _∙_}
+use mathlib.Core.List.{List, [], _∷_, _++_}
+use Prim.Native.Nat.{ℕ, _+_, _-_, _≤_}
+use native.Mathlib.Nat.{add-zero}
+use native.Mathlib.Decide.{decLe}
+use native.Mathlib.Omega.{arith}
+use borrow.Author.Tests.{le-leb, lt-leb}
+use lib.Dec.{leb}
+use lib.ListN.{length}
+use Rattle.bits.specs.Field.{putField}
+use Rattle.bits.specs.Fields.{Field, bits, total, putAll}
+use Rattle.bits.proofs.FieldsLaws.{total-append, put-append, length-put-all}
+use Rattle.messages.specs.Put.{Fits, Did}
+
+-- the test for room, as the code makes it
+pub room-test : (start n all : ℕ) → n ≤ all → leb start (all - n) ≡ leb (start + n) all
+room-test start n all h = go (decLe start (all - n))
+  where
+    go : Dec (start ≤ all - n) → leb start (all - n) ≡ leb (start + n) all
+    go (yes l) = le-leb start (all - n) l ∙ sym (le-leb (start + n) all (omega arith))
+    go (no l) = lt-leb start (all - n) (omega arith) ∙ sym (lt-leb (start + n) all (omega arith))
+
+-- one field
+pub total-one : (w v : ℕ) → total (bits w v ∷ []) ≡ w
+unfolding total
+total-one w v = add-zero w
+
+pub put-one : (s : List ℕ) (p w v : ℕ) → putAll s p (bits w v ∷ []) ≡ putField s p w v
+unfolding putAll
+put-one s p w v = refl
+
+total-none : total [] ≡ 0
+unfolding total
+total-none = refl
+
+put-none : (s : List ℕ) (p : ℕ) → putAll s p [] ≡ s
+unfolding putAll
+put-none s p = refl
+
+-- nothing is put
+pub did-none : (s : List ℕ) (p : ℕ) {fs : List Field} → fs ≡ [] → Did s p fs s p
+did-none s p {fs} e = subst (λ (l : List Field). Did s p l s p) (sym e) (record { end = sym (ap (λ (n : ℕ). p + n) total-none ∙ add-zero p); left = sym (put-none s p) })
+
+-- of the run fs₀ from bit p₀ of s₀ on, fs is left to put from bit p of s on
+pub record Left (s₀ : List ℕ) (p₀ : ℕ) (fs₀ : List Field) (s : List ℕ) (p : ℕ) (fs : List Field) : Type 0 where
+  pub same : length s ≡ length s₀
+  pub place : p + total fs ≡ p₀ + total fs₀
+  pub rest : putAll s₀ p₀ fs₀ ≡ putAll s p fs
+
+pub left-all : (s : List ℕ) (p : ℕ) (fs : List Field) → Left s p fs s p fs
+left-all s p fs = record { same = refl; place = refl; rest = refl }
+
+-- what is left of what was left
+pub left-on : {s₀ s t : List ℕ} {p₀ p q : ℕ} {fs₀ fs gs : List Field} → Left s₀ p₀ fs₀ s p fs → Left s p fs t q gs → Left s₀ p₀ fs₀ t q gs
+left-on l m = record { same = m .same ∙ l .same; place = m .place ∙ l .place; rest = l .rest ∙ m .rest }
+
+module _ {s₀ : List ℕ} {p₀ : ℕ} {fs₀ : List Field} {s : List ℕ} {p : ℕ} where
+  -- what is left, by another name
+  pub left-as : {fs gs : List Field} → fs ≡ gs → Left s₀ p₀ fs₀ s p fs → Left s₀ p₀ fs₀ s p gs
+  left-as e l = subst (λ x. Left s₀ p₀ fs₀ s p x) e l
+
+  -- the first part of what is left fits
+  pub left-fits : (xs ys : List Field) → Left s₀ p₀ fs₀ s p (xs ++ ys) → Fits s₀ p₀ fs₀ → Fits s p xs
+  left-fits xs ys l f =
+      record {
+        few = omega (arith, l .same, f .few);
+        within = omega (arith, l .same, l .place, f .within, total-append xs ys);
+      }
+
+  -- once it is put, the second part is left
+  pub left-put : (xs ys : List Field) {t : List ℕ} {q : ℕ} → Left s₀ p₀ fs₀ s p (xs ++ ys) → Did s p xs t q → Left s₀ p₀ fs₀ t q ys
+  left-put xs ys {t} {q} l d =
+      record {
+        same = ap length (d .left) ∙ length-put-all s p xs ∙ l .same;
+        place = omega (arith, l .place, d .end, total-append xs ys);
+        rest =
+            l .rest
+            ∙ put-append s p xs ys
+            ∙ ap₂ (λ (x : List ℕ) (n : ℕ). putAll x n ys) (sym (d .left)) (sym (d .end));
+      }
+
+  -- nothing is left
+  pub left-none : Left s₀ p₀ fs₀ s p [] → Did s₀ p₀ fs₀ s p
+  left-none l =
+      record {
+        end = omega (arith, l .place, total-none);
+        left = sym (l .rest ∙ put-none s p);
+      }

@@ -1,0 +1,96 @@
+-- `messages::write1059::put_satellites` meets its contract. The loop's invariant: what is left to put are the satellites from `a` on. Assumes nothing.
+use mathlib.Core.List.{List}
+use Prim.Native.Nat.{ℕ, _-_, _≤_}
+use native.Mathlib.Omega.{arith}
+use Rattle.bits.specs.Fields.{Field}
+use Rattle.messages.specs.Records.{Rec1059, records1059}
+use Rattle.messages.specs.Write1059.{ofSatellite, satelliteFields, satellitesFrom}
+use Rattle.messages.proofs.LeftLaws.{Left, left-all, left-as, left-fits, left-put, left-none}
+use Rattle.messages.proofs.Fields1059Laws.{satellites-next, satellites-none}
+use Rattle.messages.proofs.write1059.put_satellites.Statement.{statement}
+use Rattle.messages.proofs.write1059.put_satellites.Tie as tie
+
+abbrev Inv-loop : tie.InvT-loop
+Inv-loop bytes₀ start heads links counts satellites signals biases at₀ a₀ bytes at a =
+    (a ≤ 64)
+    × Left bytes₀ start (satellitesFrom 0 64 (records1059 satellites signals biases)) bytes at (satellitesFrom a (64 - a) (records1059 satellites signals biases))
+
+abbrev μ-loop : tie.MeasureT-loop
+μ-loop bytes₀ start heads links counts satellites signals biases at₀ a₀ bytes at a = 64 - a
+
+abbrev all : tie.Start Inv-loop μ-loop → List Rec1059
+all s = records1059 (s .args .satellites .now) (s .args .signals .now) (s .args .biases .now)
+
+abbrev one : tie.Start Inv-loop μ-loop → ℕ → List Field
+one s a = satelliteFields a (ofSatellite a (all s))
+
+loop-holds : tie.Need-loop-holds Inv-loop μ-loop
+loop-holds c = (omega arith, left-all _ _ _)
+
+mul-put-satellite : tie.Need-mul-put-satellite Inv-loop μ-loop
+mul-put-satellite c = omega arith
+
+element-copy-out-put-satellite : tie.Need-element-copy-out-put-satellite Inv-loop μ-loop
+element-copy-out-put-satellite c = omega arith
+
+mul-put-satellite-2 : tie.Need-mul-put-satellite-2 Inv-loop μ-loop
+mul-put-satellite-2 c = omega arith
+
+element-copy-out-put-satellite-2 : tie.Need-element-copy-out-put-satellite-2 Inv-loop μ-loop
+element-copy-out-put-satellite-2 c = omega arith
+
+put-satellite-requires : tie.Need-put-satellite-requires Inv-loop μ-loop
+put-satellite-requires c κs =
+    let s = c .before .before .before .before .before .before .before .before in
+    let l = c .before .before .before .before .loop in
+    let h = c .before .before .before .loop-test .taken in
+    let d = s .pre .2 in (
+      left-fits (one s (l .a)) _ (left-as (satellites-next (all s) (l .a) h) (l .inv .1)) (s .pre .0),
+      s .pre .1,
+      d .chain,
+      h,
+      d .count (l .a) h,
+      s .pre .3 (l .a) h,
+      d .head (l .a) h,
+    )
+
+add-a : tie.Need-add-a Inv-loop μ-loop
+add-a c = omega arith
+
+loop-less : tie.Need-loop-less Inv-loop μ-loop
+loop-less c = omega arith
+
+loop-again : tie.Need-loop-again Inv-loop μ-loop
+loop-again c =
+    let s = c .before .before .before .before .before .before .before .before .before .before .before in
+    let l = c .before .before .before .before .before .before .before .loop in (
+      omega arith,
+      left-put (one s (l .a)) _ (left-as (satellites-next (all s) (l .a) (c .before .before .before .before .before .before .loop-test .taken)) (l .inv .1)) (c .before .before .put-satellite .ensures),
+    )
+
+same-length : tie.Need-same-length Inv-loop μ-loop
+same-length c = c .before .loop .inv .1 .same
+
+returns : tie.Need-returns Inv-loop μ-loop
+returns c =
+    let s = c .before .before .before .before .before in
+    let l = c .before .loop in
+    left-none (left-as (satellites-none (all s) (l .a) (c .loop-test .left)) (l .inv .1)) .left
+
+pub put-satellites-spec : {M : Type 1} → statement M
+put-satellites-spec =
+    tie.close
+    (tie.spec
+    Inv-loop
+    μ-loop
+    loop-holds
+    mul-put-satellite
+    element-copy-out-put-satellite
+    mul-put-satellite-2
+    element-copy-out-put-satellite-2
+    put-satellite-requires
+    add-a
+    loop-less
+    loop-again
+    same-length
+    returns)

@@ -1,0 +1,103 @@
+-- `messages::write1059::write_edition` meets its contract. Each answer is the one that the sizes and the first fault ask for. Assumes nothing.
+use mathlib.Core.Path.{ap, _∙_}
+use borrow.Author.Needs.{needs}
+use Rattle.messages.specs.Steps1059.{toldFault}
+use Rattle.messages.proofs.FaultLaws.{found, sound}
+use Rattle.messages.proofs.Write1059Laws.{long-data, uneven-signals, uneven-biases, many-records, some-fault, no-fault}
+use Rattle.messages.proofs.write1059.write_edition.Statement.{statement}
+use Rattle.messages.proofs.write1059.write_edition.Tie as tie
+
+returns : tie.Need-returns
+returns c =
+    let a = c .before .before .before .before .args in
+    long-data (a .edition) (a .bytes .now) (a .start) (a .satellites .now) (a .signals .now) (a .biases .now) (c .if1 .taken)
+
+returns-2 : tie.Need-returns-2
+returns-2 c =
+    let a = c .before .before .before .before .before .args in
+    uneven-signals (a .edition) (a .bytes .now) (a .start) (a .satellites .now) (a .signals .now) (a .biases .now) (c .before .if1 .left) (c .if2 .taken)
+
+returns-3 : tie.Need-returns-3
+returns-3 c =
+    let a = c .before .before .before .before .before .before .args in
+    uneven-biases (a .edition) (a .bytes .now) (a .start) (a .satellites .now) (a .signals .now) (a .biases .now) (c .before .before .if1 .left) (c .before .if2 .left) (c .if3 .taken)
+
+returns-4 : tie.Need-returns-4
+returns-4 c =
+    let a = c .before .before .before .before .before .before .before .args in
+    many-records (a .edition) (a .bytes .now) (a .start) (a .satellites .now) (a .signals .now) (a .biases .now) (c .before .before .before .if1 .left) (c .before .before .if2 .left) (c .before .if3 .left) (c .if4 .taken)
+
+mask-1059-requires : tie.Need-mask-1059-requires
+mask-1059-requires c κs = search needs
+
+first-fault-requires : tie.Need-first-fault-requires
+first-fault-requires c κs = search needs
+
+enum-known-i : tie.Need-enum-known-i
+enum-known-i c = search needs
+
+enum-known-i-2 : tie.Need-enum-known-i-2
+enum-known-i-2 c = search needs
+
+enum-known-i-3 : tie.Need-enum-known-i-3
+enum-known-i-3 c = search needs
+
+enum-told : tie.Need-enum-told
+enum-told c = search needs
+
+write-sound-requires : tie.Need-write-sound-requires
+write-sound-requires c κs =
+    let a = c .before .before .before .before .before .before .before .before .before .before .before .before .args in (
+      c .before .before .before .before .before .before .before .before .if1 .left,
+      sound (a .edition) (a .satellites .now) (a .signals .now) (a .biases .now) (c .before .before .before .before .before .before .before .if2 .left) (c .before .before .before .before .before .before .if3 .left) (c .before .before .before .before .before .if4 .left)
+          (found (a .edition) _ _ _ (c .before .before .before .before .mask-1059 .ensures) (c .before .before .before .first-fault .ensures) ∙ ap toldFault (c .before .enum-told .given .1)),
+    )
+
+returns-5 : tie.Need-returns-5
+returns-5 c =
+    let a = c .before .before .before .before .before .before .before .before .before .before .before .before .args in
+    some-fault (a .edition) (a .bytes .now) (a .start) (a .satellites .now) (a .signals .now) (a .biases .now) (c .before .before .before .before .before .before .before .before .if1 .left) (c .before .before .before .before .before .before .before .if2 .left) (c .before .before .before .before .before .before .if3 .left) (c .before .before .before .before .before .if4 .left)
+    (found (a .edition) _ _ _ (c .before .before .before .before .mask-1059 .ensures) (c .before .before .before .first-fault .ensures) ∙ ap toldFault (c .before .i .given .1))
+
+returns-6 : tie.Need-returns-6
+returns-6 c =
+    let a = c .before .before .before .before .before .before .before .before .before .before .before .before .args in
+    some-fault (a .edition) (a .bytes .now) (a .start) (a .satellites .now) (a .signals .now) (a .biases .now) (c .before .before .before .before .before .before .before .before .if1 .left) (c .before .before .before .before .before .before .before .if2 .left) (c .before .before .before .before .before .before .if3 .left) (c .before .before .before .before .before .if4 .left)
+    (found (a .edition) _ _ _ (c .before .before .before .before .mask-1059 .ensures) (c .before .before .before .first-fault .ensures) ∙ ap toldFault (c .before .i2 .given .1))
+
+returns-7 : tie.Need-returns-7
+returns-7 c =
+    let a = c .before .before .before .before .before .before .before .before .before .before .before .before .args in
+    some-fault (a .edition) (a .bytes .now) (a .start) (a .satellites .now) (a .signals .now) (a .biases .now) (c .before .before .before .before .before .before .before .before .if1 .left) (c .before .before .before .before .before .before .before .if2 .left) (c .before .before .before .before .before .before .if3 .left) (c .before .before .before .before .before .if4 .left)
+    (found (a .edition) _ _ _ (c .before .before .before .before .mask-1059 .ensures) (c .before .before .before .first-fault .ensures) ∙ ap toldFault (c .before .i3 .given .1))
+
+same-length : tie.Need-same-length
+same-length c = search needs
+
+returns-8 : tie.Need-returns-8
+returns-8 c =
+    let a = c .before .before .before .before .before .before .before .before .before .before .before .before .before .before .before .args in
+    c .before .before .write-sound .ensures
+    ∙ no-fault (a .edition) (a .bytes .now) (a .start) (a .satellites .now) (a .signals .now) (a .biases .now) (c .before .before .before .before .before .before .before .before .before .before .before .if1 .left) (c .before .before .before .before .before .before .before .before .before .before .if2 .left) (c .before .before .before .before .before .before .before .before .before .if3 .left) (c .before .before .before .before .before .before .before .before .if4 .left)
+    (found (a .edition) _ _ _ (c .before .before .before .before .before .before .before .mask-1059 .ensures) (c .before .before .before .before .before .before .first-fault .ensures) ∙ ap toldFault (c .before .before .before .before .enum-told .given .1))
+
+pub write-edition-spec : {M : Type 1} → statement M
+write-edition-spec =
+    tie.close
+    (tie.spec
+    returns
+    returns-2
+    returns-3
+    returns-4
+    mask-1059-requires
+    first-fault-requires
+    enum-known-i
+    enum-known-i-2
+    enum-known-i-3
+    enum-told
+    write-sound-requires
+    returns-5
+    returns-6
+    returns-7
+    same-length
+    returns-8)

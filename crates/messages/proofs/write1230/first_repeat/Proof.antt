@@ -1,0 +1,89 @@
+-- `messages::write1230::first_repeat` meets its contract. The loop's invariant: no signal before `i` repeats. Assumes nothing.
+use mathlib.Core.Path.{_≡_, refl, sym, ap, _∙_}
+use mathlib.Core.Bool.{Bool}
+use mathlib.Core.List.{List, []}
+use Prim.Native.Nat.{ℕ, _-_, _≤_}
+use native.Mathlib.Nat.{sub-zero}
+use native.Mathlib.Omega.{arith}
+use borrow.Author.Needs.{needs}
+use borrow.Author.Tests.{lt-ltb, le-ltb}
+use lib.ListN.{length, take, drop, getD}
+use Rattle.messages.specs.Write1230.{isIn}
+use Rattle.messages.specs.Steps1230.{repeatIn}
+use Rattle.messages.proofs.Signals1230Laws.{seenAt, repeat-here, no-repeat-here, no-repeat}
+use Rattle.messages.proofs.write1230.first_repeat.Statement.{statement}
+use Rattle.messages.proofs.write1230.first_repeat.Tie as tie
+
+abbrev Inv-loop : tie.InvT-loop
+Inv-loop signals i₀ i =
+    (i ≤ length signals) × (repeatIn 0 [] signals ≡ repeatIn i (seenAt signals i) (drop i signals))
+
+abbrev μ-loop : tie.MeasureT-loop
+μ-loop signals i₀ i = length signals - i
+
+-- the part before place i
+before : (s : List ℕ) (i : ℕ) {r b : Bool} → r ≡ isIn (getD s i 0) (take (i - 0) s) → r ≡ b → isIn (getD s i 0) (take i s) ≡ b
+before s i e q = ap (λ (n : ℕ). isIn (getD s i 0) (take n s)) (sym (sub-zero i)) ∙ sym e ∙ q
+
+loop-holds : tie.Need-loop-holds Inv-loop μ-loop
+loop-holds c = (omega arith, refl)
+
+shared-slice-read-is-in : tie.Need-shared-slice-read-is-in Inv-loop μ-loop
+shared-slice-read-is-in c = search needs
+
+sub-is-in : tie.Need-sub-is-in Inv-loop μ-loop
+sub-is-in c = search needs
+
+part-is-in-start : tie.Need-part-is-in-start Inv-loop μ-loop
+part-is-in-start c = search needs
+
+part-is-in-end : tie.Need-part-is-in-end Inv-loop μ-loop
+part-is-in-end c = search needs
+
+is-in-requires : tie.Need-is-in-requires Inv-loop μ-loop
+is-in-requires c κs = search needs
+
+returns : tie.Need-returns Inv-loop μ-loop
+returns c =
+    let l = c .before .before .before .before .before .loop in
+    let s = c .before .before .before .before .before .before .before .args .signals .now in
+    let h = c .before .before .before .before .loop-test .taken in
+    rw (lt-ltb _ _ h)
+    (sym (l .inv .1 ∙ repeat-here s (l .i) h (before s (l .i) (c .before .is-in .ensures) (c .if1 .taken))))
+
+add-i : tie.Need-add-i Inv-loop μ-loop
+add-i c = search needs
+
+loop-less : tie.Need-loop-less Inv-loop μ-loop
+loop-less c = search needs
+
+loop-again : tie.Need-loop-again Inv-loop μ-loop
+loop-again c =
+    let l = c .before .before .before .before .before .loop in
+    let s = c .before .before .before .before .before .before .before .args .signals .now in
+    let h = c .before .before .before .before .loop-test .taken in
+    (omega arith, l .inv .1 ∙ no-repeat-here s (l .i) h (before s (l .i) (c .before .is-in .ensures) (c .if1 .left)))
+
+returns-2 : tie.Need-returns-2 Inv-loop μ-loop
+returns-2 c =
+    let l = c .before .loop in
+    let h = c .loop-test .left in
+    rw (le-ltb _ _ h) (sym (l .inv .1 ∙ no-repeat (c .before .before .before .args .signals .now) (l .i) h))
+
+pub first-repeat-spec : {M : Type 1} → statement M
+first-repeat-spec =
+    tie.close
+    (tie.spec
+    Inv-loop
+    μ-loop
+    loop-holds
+    shared-slice-read-is-in
+    sub-is-in
+    part-is-in-start
+    part-is-in-end
+    is-in-requires
+    returns
+    add-i
+    loop-less
+    loop-again
+    returns-2)

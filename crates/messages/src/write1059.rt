@@ -1,0 +1,270 @@
+// Writing the bias block of message 1059.
+ghost use mathlib.Core.Path.{_≡_};
+ghost use mathlib.Core.Bool.{true, cond};
+ghost use mathlib.Core.List.{[], _∷_};
+ghost use Prim.Native.Nat.{ℕ, _≤_, _<_};
+ghost use lib.ListN.{length, getD};
+ghost use lib.Dec.{ltb, eqb};
+ghost use Rattle.bits.specs.Told.{tooMany};
+ghost use Rattle.bits.specs.Signed.{fitsTwos, twosBits};
+ghost use Rattle.bits.specs.Field.{wrote};
+ghost use Rattle.bits.specs.Fields.{bits, putAll};
+ghost use Rattle.messages.specs.Answers.{toldBlock};
+ghost use Rattle.messages.specs.Put.{Fits, Did};
+ghost use Rattle.messages.specs.Records.{records1059};
+ghost use Rattle.messages.specs.Writer.{fine, firstFault};
+ghost use Rattle.messages.specs.Write1059.{ofSatellite, satelliteFields, satellitesFrom, write1059};
+ghost use Rattle.messages.specs.Steps1059.{toldFault, faultBy, Sound, writeSound, nextOf, countOf, Links, Linked, crowdedIn, presentIn};
+use crate::answer::BlockWritten;
+use crate::put;
+use crate::signals1059::in_mask;
+use crate::signals1059::mask_1059;
+
+// Writes the block of the records from bit `start` on, the satellites ascending and the records of each in list order.
+// Record i is satellite i, signal i and bias i of three lists of one length.
+pub fn write(
+    bytes: &mut [u8],
+    start: usize,
+    satellites: &[u8],
+    signals: &[u8],
+    biases: &[i16],
+) -> BlockWritten
+    ensures { λ r. ⌜ wrote (toldBlock r) (now (bytes .exit)) ≡ write1059 1 (now (bytes .entry)) start (now (satellites .entry)) (now (signals .entry)) (now (biases .entry)) ⌝ }
+{
+    write_edition(1, bytes, start, satellites, signals, biases)
+}
+
+// The same for an edition of the signals.
+fn write_edition(
+    edition: u32,
+    bytes: &mut [u8],
+    start: usize,
+    satellites: &[u8],
+    signals: &[u8],
+    biases: &[i16],
+) -> BlockWritten
+    ensures { λ r. ⌜ wrote (toldBlock r) (now (bytes .exit)) ≡ write1059 edition (now (bytes .entry)) start (now (satellites .entry)) (now (signals .entry)) (now (biases .entry)) ⌝ }
+{
+    let n = satellites.len();
+    if 1023 < bytes.len() {
+        return BlockWritten::Size;
+    }
+    if n != signals.len() {
+        return BlockWritten::Size;
+    }
+    if n != biases.len() {
+        return BlockWritten::Size;
+    }
+    if 1953 < n {
+        return BlockWritten::Size;
+    }
+    match first_fault(mask_1059(edition), satellites, signals, biases) {
+        Fault::Satellite(i) => BlockWritten::Satellite(i),
+        Fault::Signal(i) => BlockWritten::Signal(i),
+        Fault::Range(i) => BlockWritten::Range(i),
+        Fault::None => write_sound(bytes, start, satellites, signals, biases),
+    }
+}
+
+// What is wrong with a record. Carries its index.
+enum Fault {
+    None,
+    Satellite(usize),
+    Signal(usize),
+    Range(usize),
+}
+
+// The first fault of the records, where the mask has the signals of the edition.
+fn first_fault(mask: u32, satellites: &[u8], signals: &[u8], biases: &[i16]) -> Fault
+    requires { ⌜ (length (now satellites) ≡ length (now signals)) × (length (now satellites) ≡ length (now biases)) ⌝ }
+    ensures { λ r. ⌜ toldFault r ≡ firstFault (faultBy mask) 0 (records1059 (now (satellites .entry)) (now (signals .entry)) (now (biases .entry))) ⌝ }
+{
+    let mut i: usize = 0;
+    while i < satellites.len() {
+        if 63 < satellites[i] {
+            return Fault::Satellite(i);
+        }
+        if !in_mask(mask, signals[i]) {
+            return Fault::Signal(i);
+        }
+        if !fits_bias(biases[i]) {
+            return Fault::Range(i);
+        }
+        i += 1;
+    }
+    Fault::None
+}
+
+// Whether a bias fits 14 bits.
+fn fits_bias(bias: i16) -> bool
+    ensures { λ r. ⌜ r ≡ fitsTwos 14 bias ⌝ }
+{
+    if bias < 0 {
+        return -8193 < bias;
+    }
+    bias < 8192
+}
+
+// Writes the block of records that have no fault.
+fn write_sound(
+    bytes: &mut [u8],
+    start: usize,
+    satellites: &[u8],
+    signals: &[u8],
+    biases: &[i16],
+) -> BlockWritten
+    requires { ⌜ (length (now bytes) ≤ 1023) × Sound (now satellites) (now signals) (now biases) ⌝ }
+    ensures { λ r. ⌜ wrote (toldBlock r) (now (bytes .exit)) ≡ writeSound (now (bytes .entry)) start (records1059 (now (satellites .entry)) (now (signals .entry)) (now (biases .entry))) ⌝ }
+{
+    let n = satellites.len();
+    let mut heads = [n as u16; 64];
+    let mut links = [0u16; 1953];
+    let mut counts = [0u16; 64];
+    link(satellites, &mut heads, &mut links, &mut counts);
+    let crowded = first_crowded(&counts);
+    if crowded < 64 {
+        return BlockWritten::TooMany(crowded);
+    }
+    let m = present(&counts);
+    if m == 64 {
+        return BlockWritten::TooMany(64);
+    }
+    let bits = 6 + m * 11 + n * 19;
+    if !put::has_room(bytes.len(), start, bits) {
+        return BlockWritten::Room(bits);
+    }
+    let at = put::unsigned(bytes, start, 6, m as u64);
+    put_satellites(
+        bytes,
+        at,
+        &heads,
+        &links,
+        &counts,
+        satellites,
+        signals,
+        biases,
+    );
+    BlockWritten::End(start + bits)
+}
+
+// Links the records of each satellite, from the last record back: `heads` has the index of its first record, `counts`
+// how many it has, and `links` of each record the index of the next one. The number of records stands for none.
+fn link(satellites: &[u8], heads: &mut [u16; 64], links: &mut [u16; 1953], counts: &mut [u16; 64])
+    requires { ⌜ (length (now satellites) ≤ 1953) × ((i : ℕ) → i < length (now satellites) → getD (now satellites) i 0 < 64) × Linked (now satellites) (now heads) (now links) (now counts) (length (now satellites)) ⌝ }
+    ensures { λ r. ⌜ Linked (now (satellites .entry)) (now (heads .exit)) (now (links .exit)) (now (counts .exit)) 0 ⌝ }
+{
+    let mut i = satellites.len();
+    while 0 < i {
+        i -= 1;
+        let a = satellites[i] as usize;
+        links[i] = heads[a];
+        heads[a] = i as u16;
+        counts[a] += 1;
+    }
+}
+
+// The lowest satellite that has over 31 biases, or 64.
+fn first_crowded(counts: &[u16; 64]) -> usize
+    requires { ⌜ length (now counts) ≡ 64 ⌝ }
+    ensures { λ r. ⌜ (cond (ltb r 64) (tooMany r) fine ≡ crowdedIn 0 (now (counts .entry))) × (r ≤ 64) ⌝ }
+{
+    let mut a: usize = 0;
+    while a < 64 {
+        if 31 < counts[a] {
+            return a;
+        }
+        a += 1;
+    }
+    a
+}
+
+// How many satellites have a bias.
+fn present(counts: &[u16; 64]) -> usize
+    requires { ⌜ length (now counts) ≡ 64 ⌝ }
+    ensures { λ r. ⌜ (r ≡ presentIn (now (counts .entry))) × (r ≤ 64) ⌝ }
+{
+    let mut m: usize = 0;
+    let mut a: usize = 0;
+    while a < 64 {
+        m += one_if_some(counts[a]);
+        a += 1;
+    }
+    m
+}
+
+// 1 where there are some, else 0.
+fn one_if_some(count: u16) -> usize
+    ensures { λ r. ⌜ (r ≡ cond (eqb count 0) 0 1) × (r ≤ 1) ⌝ }
+{
+    if count == 0 { 0 } else { 1 }
+}
+
+// The satellites that have a bias, ascending, each with its biases.
+fn put_satellites(
+    bytes: &mut [u8],
+    start: usize,
+    heads: &[u16; 64],
+    links: &[u16; 1953],
+    counts: &[u16; 64],
+    satellites: &[u8],
+    signals: &[u8],
+    biases: &[i16],
+)
+    requires { ⌜ Fits (now bytes) start (satellitesFrom 0 64 (records1059 (now satellites) (now signals) (now biases))) × Sound (now satellites) (now signals) (now biases) × Linked (now satellites) (now heads) (now links) (now counts) 0 × ((a : ℕ) → a < 64 → getD (now counts) a 0 < 32) ⌝ }
+    ensures { λ r. ⌜ now (bytes .exit) ≡ putAll (now (bytes .entry)) start (satellitesFrom 0 64 (records1059 (now (satellites .entry)) (now (signals .entry)) (now (biases .entry)))) ⌝ }
+{
+    let mut at = start;
+    let mut a: usize = 0;
+    while a < 64 {
+        at = put_satellite(
+            bytes,
+            at,
+            a,
+            counts[a],
+            heads[a],
+            links,
+            satellites,
+            signals,
+            biases,
+        );
+        a += 1;
+    }
+}
+
+// Satellite a: its number, its bias count, and its biases from the one at `head` on by the links. Nothing where it has
+// none. The answer is the bit behind it.
+fn put_satellite(
+    bytes: &mut [u8],
+    start: usize,
+    a: usize,
+    count: u16,
+    head: u16,
+    links: &[u16; 1953],
+    satellites: &[u8],
+    signals: &[u8],
+    biases: &[i16],
+) -> usize
+    requires { ⌜ Fits (now bytes) start (satelliteFields a (ofSatellite a (records1059 (now satellites) (now signals) (now biases)))) × Sound (now satellites) (now signals) (now biases) × Links (now satellites) (now links) 0 × (a < 64) × (count ≡ countOf a (now satellites)) × (count < 32) × (head ≡ nextOf (now satellites) a 0) ⌝ }
+    ensures { λ r. ⌜ Did (now (bytes .entry)) start (satelliteFields a (ofSatellite a (records1059 (now (satellites .entry)) (now (signals .entry)) (now (biases .entry))))) (now (bytes .exit)) r ⌝ }
+{
+    if count == 0 {
+        return start;
+    }
+    let p = put::unsigned(bytes, start, 6, a as u64);
+    let mut at = put::unsigned(bytes, p, 5, count as u64);
+    let mut i = head as usize;
+    while i < satellites.len() {
+        at = put_bias(bytes, at, signals[i], biases[i]);
+        i = links[i] as usize;
+    }
+    at
+}
+
+// One bias: its signal and its number. The answer is the bit behind it.
+fn put_bias(bytes: &mut [u8], at: usize, signal: u8, bias: i16) -> usize
+    requires { ⌜ Fits (now bytes) at (bits 5 signal ∷ bits 14 (twosBits 14 bias) ∷ []) × (signal < 32) × (fitsTwos 14 bias ≡ true) ⌝ }
+    ensures { λ r. ⌜ Did (now (bytes .entry)) at (bits 5 signal ∷ bits 14 (twosBits 14 bias) ∷ []) (now (bytes .exit)) r ⌝ }
+{
+    let p = put::unsigned(bytes, at, 5, signal as u64);
+    put::twos(bytes, p, 14, bias)
+}
