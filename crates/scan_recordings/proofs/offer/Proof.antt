@@ -61,21 +61,21 @@ add-at c =
     let a = c .before .before .before .before .before .before .before .before .before .before .before .before .before .before .before .before .before .args in
     let w = c .before .before .before .before .before .before .before .before .before .before .before .before .before .loop in
     let v = c .before .before .before .taken .given in
-    record { fits = omega (arith, stays-in-piece rtcm rtcm-lawful (w .held) (w .count) (a .piece .now) (w .at) (w .out) (w .inv .0) (c .before .before .before .before .before .before .before .before .before .feed .ensures) (v .0 .0) (v .0 .1 .0) (v .0 .1 .1 .0) (v .0 .1 .1 .1 .0) (ap toldFed (v .1))) }
+    record { fits = omega (arith, stays-in-piece rtcm rtcm-lawful _ _ (a .piece .now) (w .at) _ (w .inv .0) (c .before .before .before .before .before .before .before .before .before .feed .ensures) _ _ _ _ (ap toldFed (v .1))) }
 
 loop-less : tie.Need-loop-less Inv-loop μ-loop
 loop-less c =
     let a = c .before .before .before .before .before .before .before .before .before .before .before .before .before .before .before .before .before .args in
     let w = c .before .before .before .before .before .before .before .before .before .before .before .before .before .loop in
     let v = c .before .before .before .taken .given in
-    comes-on rtcm rtcm-lawful (w .held) (w .count) (a .piece .now) (w .at) (w .out) (w .inv .0) (c .before .before .before .before .before .before .before .before .before .feed .ensures) (v .0 .0) (v .0 .1 .0) (v .0 .1 .1 .0) (v .0 .1 .1 .1 .0) (ap toldFed (v .1))
+    comes-on rtcm rtcm-lawful _ _ (a .piece .now) (w .at) _ (w .inv .0) (c .before .before .before .before .before .before .before .before .before .feed .ensures) _ _ _ _ (ap toldFed (v .1))
 
 loop-again : tie.Need-loop-again Inv-loop μ-loop
 loop-again c =
     let a = c .before .before .before .before .before .before .before .before .before .before .before .before .before .before .before .before .before .args in
     let w = c .before .before .before .before .before .before .before .before .before .before .before .before .before .loop in
     let v = c .before .before .before .taken .given in
-    (stays-in-piece rtcm rtcm-lawful (w .held) (w .count) (a .piece .now) (w .at) (w .out) (w .inv .0) (c .before .before .before .before .before .before .before .before .before .feed .ensures) (v .0 .0) (v .0 .1 .0) (v .0 .1 .1 .0) (v .0 .1 .1 .1 .0) (ap toldFed (v .1)), search needs, search needs)
+    (stays-in-piece rtcm rtcm-lawful _ _ (a .piece .now) (w .at) _ (w .inv .0) (c .before .before .before .before .before .before .before .before .before .feed .ensures) _ _ _ _ (ap toldFed (v .1)), search needs, search needs)
 
 same-length-3 : tie.Need-same-length-3 Inv-loop μ-loop
 same-length-3 c = search needs

@@ -1,6 +1,6 @@
 -- Each refusal is a case of the call; past them, the copies that the search tells of make the outcome. Assumes nothing.
-use mathlib.Core.Path.{_≡_}
-use mathlib.Core.Path.{sym}
+use mathlib.Core.Path.{_≡_, sym}
+use mathlib.Core.List.{List}
 use Prim.Native.Nat.{ℕ, _+_, _-_, _≤_}
 use native.Mathlib.Omega.{arith}
 use lib.ListN.{length, take}
@@ -13,20 +13,33 @@ use Rattle.frames.proofs.SightLaws.{more-within, more-made, frame-withi
 use Rattle.frames.proofs.scanner.feed.Statement.{statement}
 use Rattle.frames.proofs.scanner.feed.Tie as tie
 
--- past the refusals the call is accepted
-fits : (c : tie.After-look) → Fits (c .before .before .before .before .before .before .before .before .before .before .args .held .now) (c .before .before .before .before .before .before .before .before .before .before .args .count) (c .before .before .before .before .before .before .before .before .before .before .args .piece .now) (c .before .before .before .before .before .before .before .before .before .before .args .out .now)
-fits c = record { area = omega arith; count = omega arith; piece = omega arith; output = omega arith }
+-- past the refusals, and past the search
+module _ (c : tie.After-look) where
+  abbrev area : List ℕ
+  area = c .before .before .before .before .before .before .before .before .before .before .args .held .now
 
--- the places that the search finds are there
-finds-more : (c : tie.After-look) (i : ℕ) → c .look .result ≡ More i
-    → (i ≤ (c .before .before .before .before .before .before .before .before .before .before .args .count) + length (c .before .before .before .before .before .before .before .before .before .before .args .piece .now)) × ((c .before .before .before .before .before .before .before .before .before .before .args .count) + length (c .before .before .before .before .before .before .before .before .before .before .args .piece .now) ≤ i + 1029)
-finds-more c i e = more-within rtcm rtcm-lawful _ _ _ _ (fits c) _ (c .look .ensures) i e
+  abbrev count : ℕ
+  count = c .before .before .before .before .before .before .before .before .before .before .args .count
 
-finds-frame : (c : tie.After-look) (i l t : ℕ) → c .look .result ≡ Frame i l t
-    → (t ≤ length (c .before .before .before .before .before .before .before .before .before .before .args .piece .now)) × (i + l ≤ (c .before .before .before .before .before .before .before .before .before .before .args .count) + t) × ((c .before .before .before .before .before .before .before .before .before .before .args .count) + t ≤ i + 1029) × (length (take (t - 0) (c .before .before .before .before .before .before .before .before .before .before .args .piece .now)) ≡ t)
-finds-frame c i l t e =
-    let k = frame-within rtcm rtcm-lawful _ _ _ _ (fits c) _ (c .look .ensures) i l t e in
-    (k .0, k .1, k .2, taken-length rtcm rtcm-lawful _ _ _ _ (fits c) _ (c .look .ensures) i l t e)
+  abbrev piece : List ℕ
+  piece = c .before .before .before .before .before .before .before .before .before .before .args .piece .now
+
+  abbrev out : List ℕ
+  out = c .before .before .before .before .before .before .before .before .before .before .args .out .now
+
+  -- the call is accepted
+  fits : Fits area count piece out
+  fits = record { area = omega arith; count = omega arith; piece = omega arith; output = omega arith }
+
+  -- the places that the search found are there
+  found-more : (i : ℕ) → c .look .result ≡ More i → (i ≤ count + length piece) × (count + length piece ≤ i + 1029)
+  found-more i e = more-within rtcm rtcm-lawful _ _ _ _ fits _ (c .look .ensures) i e
+
+  found-frame : (i l t : ℕ) → c .look .result ≡ Frame i l t
+      → (t ≤ length piece) × (i + l ≤ count + t) × (count + t ≤ i + 1029) × (length (take (t - 0) piece) ≡ t)
+  found-frame i l t e =
+      let k = frame-within rtcm rtcm-lawful _ _ _ _ fits _ (c .look .ensures) i l t e in
+      (k .0, k .1, k .2, taken-length rtcm rtcm-lawful _ _ _ _ fits _ (c .look .ensures) i l t e)
 
 returns : tie.Need-returns
 returns c = sym (wrong-area rtcm _ _ _ _ (c .if1 .taken))
@@ -56,7 +69,7 @@ enum-known-i : tie.Need-enum-known-i
 enum-known-i c = search needs
 
 slide-requires : tie.Need-slide-requires
-slide-requires c κs = let k = finds-more (c .before .before .before .before) _ (c .before .before .i .given .1) in (omega arith, k .0, omega (arith, k .1), omega arith)
+slide-requires c κs = let k = found-more (c .before .before .before .before) _ (c .before .before .i .given .1) in (omega arith, k .0, omega (arith, k .1), omega arith)
 
 enum-known-skipped : tie.Need-enum-known-skipped
 enum-known-skipped c = search needs
@@ -68,7 +81,7 @@ part-looked-start : tie.Need-part-looked-start
 part-looked-start c = search needs
 
 part-looked-end : tie.Need-part-looked-end
-part-looked-end c = finds-frame (c .before .before .before) _ _ _ (c .before .skipped .given .1) .0
+part-looked-end c = found-frame (c .before .before .before) _ _ _ (c .before .skipped .given .1) .0
 
 sub-gather : tie.Need-sub-gather
 sub-gather c = search needs
@@ -80,13 +93,13 @@ part-gather-end : tie.Need-part-gather-end
 part-gather-end c = search needs
 
 gather-requires : tie.Need-gather-requires
-gather-requires c κs = let k = finds-frame (c .before .before .before .before .before .before .before) _ _ _ (c .before .before .before .before .before .skipped .given .1) in (omega (arith, k), omega (arith, k), omega (arith, k))
+gather-requires c κs = let k = found-frame (c .before .before .before .before .before .before .before) _ _ _ (c .before .before .before .before .before .skipped .given .1) in (omega (arith, k), omega (arith, k), omega (arith, k))
 
 add-slide : tie.Need-add-slide
-add-slide c = let k = finds-frame (c .before .before .before .before .before .before .before .before .before .before .before) _ _ _ (c .before .before .before .before .before .before .before .before .before .skipped .given .1) in record { fits = omega (arith, k) }
+add-slide c = let k = found-frame (c .before .before .before .before .before .before .before .before .before .before .before) _ _ _ (c .before .before .before .before .before .before .before .before .before .skipped .given .1) in record { fits = omega (arith, k) }
 
 slide-requires-2 : tie.Need-slide-requires-2
-slide-requires-2 c κs = let k = finds-frame (c .before .before .before .before .before .before .before .before .before .before .before) _ _ _ (c .before .before .before .before .before .before .before .before .before .skipped .given .1) in (omega arith, omega (arith, k), omega (arith, k), omega (arith, k))
+slide-requires-2 c κs = let k = found-frame (c .before .before .before .before .before .before .before .before .before .before .before) _ _ _ (c .before .before .before .before .before .before .before .before .before .skipped .given .1) in (omega arith, omega (arith, k), omega (arith, k), omega (arith, k))
 
 same-length : tie.Need-same-length
 same-length c = search needs

@@ -1,0 +1,242 @@
+# Builds the library and what stands around it for C.
+#
+#   make                     libpeerivolt.a and libpeerivolt.so
+#   make install PREFIX=..   archive, shared object, header and pkg-config file
+#   make check               the C tests: plain, under sanitizers, and under valgrind where it is there
+#   make relay               the example relay, build/../opt/relay
+#   make bench               the benchmark against a plain C program
+#   make differential        the runs against the Rust, where its source and cargo are there
+#   make lint                clang and cppcheck over the C files, where they are there
+#   make clean
+#
+# LIB=ref or LIB=plain puts a stand-in in the place of the library (the plain reference, or the plain C program of the
+# benchmark), to try the tests without it. Stand-ins stay in build/ and are never installed but below it.
+
+VERSION := 0.1.0
+SONAME := libpeerivolt.so.0
+PREFIX ?= /usr/local
+RT ?= rt
+RUST_SOURCE ?= ../shared/docs/src
+RUST_TIMES ?= build/rust-times.tsv
+LIB ?= peerivolt
+
+STD := -std=c11
+WARN := -Wall -Wextra -Wpedantic -Wshadow -Werror
+COMPILE := $(STD) $(WARN) -Iinclude -g -MMD -MP
+SANITIZE := -fsanitize=address,undefined -fno-sanitize-recover=all -fno-omit-frame-pointer
+
+B := build/$(LIB)
+
+# The recordings, wherever in the repository they stand.
+RECORDING_NAMES := rtcm3-1.bin rtcm3-1.1059.tsv rtcm3-3.bin rtcm3.bndm.bin rtcm3.bin ublox-f9p-rtcm.bin testglo.rtcm3
+RECORDING_DIRS ?= c/data crates/*/data
+RECORDINGS := $(foreach name,$(RECORDING_NAMES),$(firstword $(wildcard $(addsuffix /$(name),$(RECORDING_DIRS)))))
+recording = $(firstword $(filter %/$(1),$(RECORDINGS)))
+
+RATTLE_FILES := crates.txt $(shell find crates -name must-fail -prune -o -type f \( -name '*.rt' -o -name '*.antt' \) -print)
+
+.PHONY: all install check relay bench differential lint clean
+.PHONY: check-header check-opt check-san check-valgrind check-cpp check-exports check-relay check-install
+
+all: libpeerivolt.a libpeerivolt.so
+
+# ---- The library.
+
+libpeerivolt.a: $(RATTLE_FILES)
+	$(RT) staticlib peerivolt
+	cp target/staticlib/libpeerivolt.a $@
+
+# The whole archive as a shared object that exports the names of the header and nothing else.
+SHARE := -shared -Wl,-soname,$(SONAME) -Wl,--version-script=c/peerivolt.map -Wl,-z,defs
+
+libpeerivolt.so.0: libpeerivolt.a c/peerivolt.map
+	$(CC) $(LDFLAGS) $(SHARE) -Wl,--whole-archive $< -Wl,--no-whole-archive -o $@
+
+libpeerivolt.so: libpeerivolt.so.0
+	ln -sf $(SONAME) $@
+
+ifeq ($(LIB),peerivolt)
+ARCHIVE := libpeerivolt.a
+SAN_ARCHIVE := libpeerivolt.a
+SHARED := libpeerivolt.so.0
+else
+ARCHIVE := $(B)/libpeerivolt.a
+SAN_ARCHIVE := $(B)/san/libpeerivolt.a
+SHARED := $(B)/libpeerivolt.so.0
+endif
+
+# ---- Stand-ins.
+
+STAND_IN := stand_in reference plain plain_table
+STAND_IN_FLAG := $(if $(filter plain,$(LIB)),-DSTAND_IN_PLAIN)
+
+build/$(LIB)/libpeerivolt.a: $(STAND_IN:%=$(B)/pic/%.o)
+	rm -f $@ && $(AR) rcs $@ $^
+
+build/$(LIB)/san/libpeerivolt.a: $(STAND_IN:%=$(B)/san/%.o)
+	rm -f $@ && $(AR) rcs $@ $^
+
+build/$(LIB)/libpeerivolt.so.0: $(B)/libpeerivolt.a c/peerivolt.map
+	$(CC) $(LDFLAGS) $(SHARE) -Wl,--whole-archive $< -Wl,--no-whole-archive -o $@
+
+# ---- Objects: opt is what runs, san has the sanitizers, pic goes into a stand-in.
+
+$(B)/opt/%.o: c/%.c Makefile
+	@mkdir -p $(@D)
+	$(CC) $(COMPILE) -O2 $(CFLAGS) $(STAND_IN_FLAG) -c $< -o $@
+
+$(B)/opt/%_table.o: c/%.c Makefile
+	@mkdir -p $(@D)
+	$(CC) $(COMPILE) -O2 $(CFLAGS) -DPLAIN_TABLE -c $< -o $@
+
+$(B)/san/%.o: c/%.c Makefile
+	@mkdir -p $(@D)
+	$(CC) $(COMPILE) -O1 $(SANITIZE) $(CFLAGS) $(STAND_IN_FLAG) -c $< -o $@
+
+$(B)/san/%_table.o: c/%.c Makefile
+	@mkdir -p $(@D)
+	$(CC) $(COMPILE) -O1 $(SANITIZE) $(CFLAGS) -DPLAIN_TABLE -c $< -o $@
+
+$(B)/pic/%.o: c/%.c Makefile
+	@mkdir -p $(@D)
+	$(CC) $(COMPILE) -O2 -fPIC $(CFLAGS) $(STAND_IN_FLAG) -c $< -o $@
+
+$(B)/pic/%_table.o: c/%.c Makefile
+	@mkdir -p $(@D)
+	$(CC) $(COMPILE) -O2 -fPIC $(CFLAGS) -DPLAIN_TABLE -c $< -o $@
+
+.SECONDARY:
+-include $(wildcard $(B)/*/*.d)
+
+# ---- Programs.
+
+TESTS := test_calls test_random test_recordings
+PROGRAMS := $(TESTS) relay
+HELPERS := crumbs expected
+
+$(PROGRAMS:%=$(B)/opt/%): $(B)/opt/%: $(B)/opt/%.o $(B)/opt/reference.o $(ARCHIVE)
+	$(CC) $(LDFLAGS) $^ -o $@
+
+$(PROGRAMS:%=$(B)/san/%): $(B)/san/%: $(B)/san/%.o $(B)/san/reference.o $(SAN_ARCHIVE)
+	$(CC) $(SANITIZE) $(LDFLAGS) $^ -o $@
+
+$(B)/opt/test_calls_shared: $(B)/opt/test_calls.o $(SHARED)
+	$(CC) $(LDFLAGS) $^ -Wl,-rpath,$(abspath $(dir $(SHARED))) -o $@
+
+$(B)/opt/bench: $(B)/opt/bench.o $(B)/opt/plain.o $(B)/opt/plain_table.o $(B)/opt/reference.o $(ARCHIVE)
+	$(CC) $(LDFLAGS) $^ -o $@
+
+$(HELPERS:%=$(B)/opt/%): $(B)/opt/%: $(B)/opt/%.o $(B)/opt/reference.o
+	$(CC) $(LDFLAGS) $^ -o $@
+
+$(HELPERS:%=$(B)/san/%): $(B)/san/%: $(B)/san/%.o $(B)/san/reference.o
+	$(CC) $(SANITIZE) $(LDFLAGS) $^ -o $@
+
+$(B)/opt/test_header: c/test_header.cpp include/peerivolt.h $(ARCHIVE)
+	@mkdir -p $(@D)
+	$(CXX) -std=c++11 $(WARN) -O2 -Iinclude $(CXXFLAGS) $< $(ARCHIVE) -o $@
+
+relay: $(B)/opt/relay
+
+# ---- Checks.
+
+check: check-header check-opt check-san check-cpp check-exports check-relay check-install check-valgrind
+	@echo "make check: passed ($(LIB))"
+
+# The header by itself, in every language and by every compiler that is there.
+check-header:
+	@mkdir -p $(B)
+	@echo '#include "peerivolt.h"' >$(B)/alone.c
+	@for compiler in $(CC) gcc clang; do \
+	    command -v $$compiler >/dev/null || continue; \
+	    for std in c11 c17; do \
+	        $$compiler -std=$$std -Wall -Wextra -Wpedantic -Wconversion -Werror -Iinclude -fsyntax-only $(B)/alone.c || exit 1; \
+	    done; \
+	done
+	@for compiler in $(CXX) g++ clang++; do \
+	    command -v $$compiler >/dev/null || continue; \
+	    for std in c++11 c++17 c++20; do \
+	        $$compiler -x c++ -std=$$std -Wall -Wextra -Wpedantic -Wconversion -Werror -Iinclude -fsyntax-only $(B)/alone.c || exit 1; \
+	    done; \
+	done
+	@echo "header: clean"
+
+check-opt: $(TESTS:%=$(B)/opt/%) $(B)/opt/test_calls_shared
+	$(B)/opt/test_calls
+	$(B)/opt/test_calls_shared
+	$(B)/opt/test_random 120000
+	$(B)/opt/test_recordings $(RECORDINGS)
+
+check-san: $(TESTS:%=$(B)/san/%)
+	$(B)/san/test_calls
+	$(B)/san/test_random 40000
+	$(B)/san/test_recordings $(RECORDINGS)
+
+check-valgrind: $(TESTS:%=$(B)/opt/%)
+	@if command -v valgrind >/dev/null; then \
+	    run() { echo "valgrind $$*"; valgrind -q --error-exitcode=1 --leak-check=full --errors-for-leak-kinds=definite "$$@"; }; \
+	    run $(B)/opt/test_calls && run $(B)/opt/test_random 2000 && run $(B)/opt/test_recordings $(RECORDINGS); \
+	else \
+	    echo "valgrind: skipped, since it is not here"; \
+	fi
+
+check-cpp:
+	@if command -v $(CXX) >/dev/null; then \
+	    $(MAKE) --no-print-directory $(B)/opt/test_header && $(B)/opt/test_header; \
+	else \
+	    echo "C++: skipped, since no C++ compiler is here"; \
+	fi
+
+check-exports: $(SHARED) $(ARCHIVE)
+	c/test_exports.sh include/peerivolt.h $(SHARED) $(if $(filter peerivolt,$(LIB)),$(ARCHIVE))
+
+check-relay: $(foreach name,relay $(HELPERS),$(B)/opt/$(name) $(B)/san/$(name))
+	c/test_relay.sh $(B)/opt $(call recording,ublox-f9p-rtcm.bin) $(call recording,rtcm3-3.bin)
+	c/test_relay.sh $(B)/san $(call recording,rtcm3-3.bin)
+
+check-install: $(ARCHIVE) $(SHARED)
+	@$(MAKE) --no-print-directory install LIB=$(LIB) DESTDIR= PREFIX=$(abspath $(B))/prefix >/dev/null
+	CC='$(CC)' c/test_install.sh $(abspath $(B))/prefix c/example.c $(call recording,rtcm3-3.bin) 200
+
+# ---- Installing.
+
+install: $(ARCHIVE) $(SHARED)
+	@case '$(LIB):$(PREFIX)' in \
+	    peerivolt:* | *:$(CURDIR)/build/*) ;; \
+	    *) echo "install: $(LIB) is a stand-in, and is installed below build/ only" >&2; exit 1 ;; \
+	esac
+	@mkdir -p $(DESTDIR)$(PREFIX)/lib/pkgconfig $(DESTDIR)$(PREFIX)/include
+	install -m 644 include/peerivolt.h $(DESTDIR)$(PREFIX)/include/peerivolt.h
+	install -m 644 $(ARCHIVE) $(DESTDIR)$(PREFIX)/lib/libpeerivolt.a
+	install -m 755 $(SHARED) $(DESTDIR)$(PREFIX)/lib/$(SONAME)
+	ln -sf $(SONAME) $(DESTDIR)$(PREFIX)/lib/libpeerivolt.so
+	sed 's|@PREFIX@|$(PREFIX)|; s|@VERSION@|$(VERSION)|' c/peerivolt.pc.in >$(DESTDIR)$(PREFIX)/lib/pkgconfig/peerivolt.pc
+
+# ---- Other runs.
+
+bench: $(B)/opt/bench
+	$(B)/opt/bench $(wildcard $(RUST_TIMES))
+
+differential:
+	@if [ ! -x differential/run.sh ]; then \
+	    echo "differential: SKIPPED, since differential/run.sh is not here"; \
+	elif ! command -v cargo >/dev/null; then \
+	    echo "differential: SKIPPED, since cargo is not here"; \
+	elif [ ! -d "$(RUST_SOURCE)" ]; then \
+	    echo "differential: SKIPPED, since the Rust source is not at $(RUST_SOURCE) (name it: make differential RUST_SOURCE=..)"; \
+	else \
+	    $(MAKE) --no-print-directory libpeerivolt.a && RUST_SOURCE="$(RUST_SOURCE)" differential/run.sh; \
+	fi
+
+lint:
+	@if command -v clang >/dev/null; then \
+	    for file in c/*.c; do clang $(STD) $(WARN) -Wconversion -Iinclude -fsyntax-only $$file || exit 1; done; \
+	    echo "clang: clean"; \
+	else echo "clang: skipped, since it is not here"; fi
+	@if command -v cppcheck >/dev/null; then \
+	    cppcheck -q --std=c11 --enable=warning,portability,performance --inline-suppr --error-exitcode=1 -Iinclude c/*.c && \
+	    echo "cppcheck: clean"; \
+	else echo "cppcheck: skipped, since it is not here"; fi
+
+clean:
+	rm -rf build libpeerivolt.a libpeerivolt.so libpeerivolt.so.0

@@ -1,0 +1,718 @@
+/* The plain reference: see reference.h. Every refusal stands in the order in which the rules name it. */
+#include "reference.h"
+
+#include <string.h>
+
+#include "peerivolt.h"
+
+/* ---- Answers. ---- */
+
+static void clear(uint64_t *extra)
+{
+    for (size_t i = 0; i < PV_EXTRA_SIZE; i++)
+        extra[i] = 0;
+}
+
+/* A refusal that carries a number, or 0 for nothing. */
+static uint32_t refuse(uint64_t *extra, uint32_t number, uint64_t carried)
+{
+    clear(extra);
+    extra[0] = carried;
+    return number;
+}
+
+static uint32_t accept_one(uint64_t *extra, uint64_t first)
+{
+    clear(extra);
+    extra[0] = first;
+    return PV_ACCEPTED;
+}
+
+static uint32_t accept_two(uint64_t *extra, uint64_t first, uint64_t second)
+{
+    clear(extra);
+    extra[0] = first;
+    extra[1] = second;
+    return PV_ACCEPTED;
+}
+
+/* ---- Bits. ---- */
+
+static unsigned bit_at(const uint8_t *data, size_t place)
+{
+    return data[place / 8] >> (7 - place % 8) & 1;
+}
+
+static void set_bit(uint8_t *data, size_t place, unsigned bit)
+{
+    uint8_t mask = (uint8_t)(0x80 >> place % 8);
+    data[place / 8] = (uint8_t)(bit ? data[place / 8] | mask : data[place / 8] & ~mask);
+}
+
+static uint64_t get_field(const uint8_t *data, size_t start, size_t width)
+{
+    uint64_t value = 0;
+    for (size_t i = 0; i < width; i++)
+        value = value << 1 | bit_at(data, start + i);
+    return value;
+}
+
+static void put_field(uint8_t *data, size_t start, size_t width, uint64_t value)
+{
+    for (size_t i = 0; i < width; i++)
+        set_bit(data, start + i, value >> (width - 1 - i) & 1);
+}
+
+/* Whether `bits` bits from `start` on lie in the data; any start is allowed. */
+static int fits_in(size_t data_len, size_t start, size_t bits)
+{
+    return start <= data_len * 8 && bits <= data_len * 8 - start;
+}
+
+/* The number that a field holds in two's complement, as 64 bits. */
+static uint64_t as_twos(uint64_t field, size_t width)
+{
+    int negative = field >> (width - 1) & 1;
+    for (size_t i = width; negative && i < 64; i++)
+        field |= (uint64_t)1 << i;
+    return field;
+}
+
+/* The number that a field holds as sign and magnitude, as 64 bits in two's complement. */
+static uint64_t as_signmag(uint64_t field, size_t width)
+{
+    uint64_t sign = (uint64_t)1 << (width - 1);
+    return field & sign ? 0 - (field & (sign - 1)) : field;
+}
+
+static int fits_unsigned(uint64_t value, size_t width)
+{
+    return width == 64 || value < (uint64_t)1 << width;
+}
+
+static int fits_twos(int64_t value, size_t width)
+{
+    int64_t limit = width == 64 ? INT64_MAX : ((int64_t)1 << (width - 1)) - 1;
+    return -limit - 1 <= value && value <= limit;
+}
+
+static int fits_signmag(int64_t value, size_t width)
+{
+    int64_t limit = width == 64 ? INT64_MAX : ((int64_t)1 << (width - 1)) - 1;
+    return -limit <= value && value <= limit;
+}
+
+/* ---- Checksum. ---- */
+
+uint32_t ref_crc24q(const uint8_t *bytes, size_t bytes_len)
+{
+    uint32_t sum = 0;
+    for (size_t place = 0; place < bytes_len * 8; place++) {
+        unsigned out = (sum >> 23 & 1) ^ bit_at(bytes, place);
+        sum = sum << 1 & 0xFFFFFF;
+        if (out)
+            sum ^= 0x864CFB;
+    }
+    return sum;
+}
+
+/* ---- Fields. ---- */
+
+enum reading { UNSIGNED, TWOS, SIGNMAG };
+
+static uint32_t read_field(enum reading reading, const uint8_t *data, size_t data_len, size_t start, size_t width,
+                           uint64_t *extra, size_t extra_len)
+{
+    if (extra_len != PV_EXTRA_SIZE)
+        return PV_SIZE;
+    if (data_len > PV_DATA_MAX)
+        return refuse(extra, PV_SIZE, 0);
+    if (width == 0 || width > 64)
+        return refuse(extra, PV_WIDTH, 0);
+    if (!fits_in(data_len, start, width))
+        return refuse(extra, PV_SHORT, start);
+    uint64_t field = get_field(data, start, width);
+    if (reading == TWOS)
+        field = as_twos(field, width);
+    if (reading == SIGNMAG)
+        field = as_signmag(field, width);
+    return accept_one(extra, field);
+}
+
+uint32_t ref_field_read_unsigned(const uint8_t *data, size_t data_len, size_t start, size_t width,
+                                 uint64_t *extra, size_t extra_len)
+{
+    return read_field(UNSIGNED, data, data_len, start, width, extra, extra_len);
+}
+
+uint32_t ref_field_read_twos(const uint8_t *data, size_t data_len, size_t start, size_t width,
+                             uint64_t *extra, size_t extra_len)
+{
+    return read_field(TWOS, data, data_len, start, width, extra, extra_len);
+}
+
+uint32_t ref_field_read_signmag(const uint8_t *data, size_t data_len, size_t start, size_t width,
+                                uint64_t *extra, size_t extra_len)
+{
+    return read_field(SIGNMAG, data, data_len, start, width, extra, extra_len);
+}
+
+static int fits_width(enum reading reading, uint64_t value, size_t width)
+{
+    if (reading == UNSIGNED)
+        return fits_unsigned(value, width);
+    if (reading == TWOS)
+        return fits_twos((int64_t)value, width);
+    return fits_signmag((int64_t)value, width);
+}
+
+/* The bits of a number that fits: two's complement as they are, sign and magnitude put together. */
+static uint64_t field_of(enum reading reading, uint64_t value, size_t width)
+{
+    if (reading == SIGNMAG && (int64_t)value < 0)
+        return (uint64_t)1 << (width - 1) | (0 - value);
+    return value;
+}
+
+static uint32_t write_field(enum reading reading, uint8_t *data, size_t data_len, size_t start, size_t width,
+                            uint64_t value, uint64_t *extra, size_t extra_len)
+{
+    if (extra_len != PV_EXTRA_SIZE)
+        return PV_SIZE;
+    if (data_len > PV_DATA_MAX)
+        return refuse(extra, PV_SIZE, 0);
+    if (width == 0 || width > 64)
+        return refuse(extra, PV_WIDTH, 0);
+    if (!fits_width(reading, value, width))
+        return refuse(extra, PV_RANGE, 0);
+    if (!fits_in(data_len, start, width))
+        return refuse(extra, PV_ROOM, width);
+    put_field(data, start, width, field_of(reading, value, width));
+    return accept_one(extra, start + width);
+}
+
+uint32_t ref_field_write_unsigned(uint8_t *data, size_t data_len, size_t start, size_t width, uint64_t value,
+                                  uint64_t *extra, size_t extra_len)
+{
+    return write_field(UNSIGNED, data, data_len, start, width, value, extra, extra_len);
+}
+
+uint32_t ref_field_write_twos(uint8_t *data, size_t data_len, size_t start, size_t width, int64_t value,
+                              uint64_t *extra, size_t extra_len)
+{
+    return write_field(TWOS, data, data_len, start, width, (uint64_t)value, extra, extra_len);
+}
+
+uint32_t ref_field_write_signmag(uint8_t *data, size_t data_len, size_t start, size_t width, int64_t value,
+                                 uint64_t *extra, size_t extra_len)
+{
+    return write_field(SIGNMAG, data, data_len, start, width, (uint64_t)value, extra, extra_len);
+}
+
+/* ---- One frame. ---- */
+
+static size_t declared_length(const uint8_t *bytes)
+{
+    return (size_t)get_field(bytes, 14, 10);
+}
+
+/* 0 and nothing else where the bytes begin with a good frame, else the refusal. */
+static uint32_t judge_frame(const uint8_t *bytes, size_t bytes_len)
+{
+    if (bytes_len < PV_FRAME_MIN)
+        return PV_INCOMPLETE;
+    if (bytes[0] != 0xD3)
+        return PV_NOT_VALID;
+    size_t length = declared_length(bytes);
+    if (bytes_len < length + PV_FRAME_MIN)
+        return PV_INCOMPLETE;
+    if (ref_crc24q(bytes, length + 3) != get_field(bytes + length + 3, 0, 24))
+        return PV_NOT_VALID;
+    return PV_ACCEPTED;
+}
+
+uint32_t ref_frame_check(const uint8_t *bytes, size_t bytes_len, uint64_t *extra, size_t extra_len)
+{
+    if (extra_len != PV_EXTRA_SIZE)
+        return PV_SIZE;
+    uint32_t refusal = judge_frame(bytes, bytes_len);
+    if (refusal != PV_ACCEPTED)
+        return refuse(extra, refusal, 0);
+    size_t length = declared_length(bytes);
+    clear(extra);
+    extra[PV_AT_FRAME_LENGTH] = length + PV_FRAME_MIN;
+    extra[PV_AT_FRAME_DATA_LENGTH] = length;
+    extra[PV_AT_FRAME_HAS_NUMBER] = length >= 2;
+    extra[PV_AT_FRAME_NUMBER] = length >= 2 ? get_field(bytes, 24, 12) : 0;
+    extra[PV_AT_FRAME_CHECKSUM] = ref_crc24q(bytes, length + 3);
+    return PV_ACCEPTED;
+}
+
+uint32_t ref_frame_write(const uint8_t *data, size_t data_len, uint8_t *out, size_t out_len,
+                         uint64_t *extra, size_t extra_len)
+{
+    if (extra_len != PV_EXTRA_SIZE)
+        return PV_SIZE;
+    if (data_len > PV_DATA_MAX)
+        return refuse(extra, PV_SIZE, 0);
+    if (out_len < data_len + PV_FRAME_MIN)
+        return refuse(extra, PV_ROOM, data_len + PV_FRAME_MIN);
+    out[0] = 0xD3;
+    put_field(out, 8, 6, 0);
+    put_field(out, 14, 10, data_len);
+    for (size_t i = 0; i < data_len; i++)
+        out[3 + i] = data[i];
+    put_field(out + 3 + data_len, 0, 24, ref_crc24q(out, data_len + 3));
+    return accept_one(extra, data_len + PV_FRAME_MIN);
+}
+
+/* ---- Scanning. ---- */
+
+enum ref_fate ref_scan(const uint8_t *stream, size_t stream_len, size_t place, size_t *frame_len)
+{
+    if (place >= stream_len)
+        return REF_HELD;
+    if (stream[place] != 0xD3)
+        return REF_SKIPPED;
+    uint32_t refusal = judge_frame(stream + place, stream_len - place);
+    if (refusal == PV_INCOMPLETE)
+        return REF_HELD;
+    if (refusal == PV_NOT_VALID)
+        return REF_SKIPPED;
+    *frame_len = declared_length(stream + place) + PV_FRAME_MIN;
+    return REF_FRAME;
+}
+
+/* The held bytes while a call runs. */
+struct holding {
+    uint8_t bytes[PV_HELD_SIZE];
+    size_t count;
+};
+
+static void remove_front(struct holding *holding, size_t n)
+{
+    holding->count -= n;
+    memmove(holding->bytes, holding->bytes + n, holding->count);
+}
+
+static int wants_a_byte(const struct holding *holding)
+{
+    if (holding->count == 0)
+        return 1;
+    return holding->bytes[0] == 0xD3 && judge_frame(holding->bytes, holding->count) == PV_INCOMPLETE;
+}
+
+static uint32_t fed(uint64_t *extra, size_t taken, size_t skipped, size_t held_count, size_t frame_len)
+{
+    clear(extra);
+    extra[PV_AT_FED_IS_FRAME] = frame_len > 0 ? PV_FRAME : PV_MORE;
+    extra[PV_AT_FED_TAKEN] = taken;
+    extra[PV_AT_FED_SKIPPED] = skipped;
+    extra[PV_AT_FED_HELD_COUNT] = held_count;
+    extra[PV_AT_FED_FRAME_LENGTH] = frame_len;
+    return PV_ACCEPTED;
+}
+
+/* The call itself, worded as the rules word it. Gives the frame's length, or 0 for More. */
+static size_t feed_bytes(struct holding *holding, const uint8_t *piece, size_t piece_len, uint8_t *out,
+                         size_t *taken, size_t *skipped)
+{
+    for (;;) {
+        while (wants_a_byte(holding)) {
+            if (*taken == piece_len)
+                return 0;
+            holding->bytes[holding->count++] = piece[(*taken)++];
+        }
+        if (holding->bytes[0] == 0xD3 && judge_frame(holding->bytes, holding->count) == PV_ACCEPTED) {
+            size_t frame_len = declared_length(holding->bytes) + PV_FRAME_MIN;
+            memcpy(out, holding->bytes, frame_len);
+            remove_front(holding, frame_len);
+            return frame_len;
+        }
+        remove_front(holding, 1);
+        *skipped += 1;
+    }
+}
+
+uint32_t ref_feed(uint8_t *held, size_t held_len, size_t held_count, const uint8_t *piece, size_t piece_len,
+                  uint8_t *out, size_t out_len, uint64_t *extra, size_t extra_len)
+{
+    if (extra_len != PV_EXTRA_SIZE)
+        return PV_SIZE;
+    if (held_len != PV_HELD_SIZE)
+        return PV_SIZE;
+    if (held_count > PV_HELD_SIZE)
+        return refuse(extra, PV_STATE, 0);
+    if (piece_len > PV_PIECE_MAX)
+        return refuse(extra, PV_SIZE, 0);
+    if (out_len < PV_FRAME_MAX)
+        return refuse(extra, PV_ROOM, PV_FRAME_MAX);
+    struct holding holding;
+    memcpy(holding.bytes, held, held_count);
+    holding.count = held_count;
+    size_t taken = 0;
+    size_t skipped = 0;
+    size_t frame_len = feed_bytes(&holding, piece, piece_len, out, &taken, &skipped);
+    memcpy(held, holding.bytes, holding.count);
+    return fed(extra, taken, skipped, holding.count, frame_len);
+}
+
+/* ---- Reading of blocks, field after field. ---- */
+
+struct cursor {
+    const uint8_t *data;
+    size_t data_len;
+    size_t place;
+    int is_short; /* Once set, `place` is where the field that did not fit starts. */
+};
+
+static uint64_t next_field(struct cursor *cursor, size_t width)
+{
+    if (cursor->is_short || !fits_in(cursor->data_len, cursor->place, width)) {
+        cursor->is_short = 1;
+        return 0;
+    }
+    uint64_t value = get_field(cursor->data, cursor->place, width);
+    cursor->place += width;
+    return value;
+}
+
+/* The records of a block before they are handed out: a block has at most 422. */
+struct records {
+    size_t count;
+    uint8_t satellites[PV_1059_READ_MAX];
+    uint8_t signals[PV_1059_READ_MAX];
+    int16_t biases[PV_1059_READ_MAX];
+};
+
+static void add_record(struct records *records, uint64_t satellite, uint64_t signal, uint64_t bias)
+{
+    records->satellites[records->count] = (uint8_t)satellite;
+    records->signals[records->count] = (uint8_t)signal;
+    records->biases[records->count] = (int16_t)(int64_t)bias;
+    records->count += 1;
+}
+
+static void read_satellite(struct cursor *cursor, struct records *records)
+{
+    uint64_t satellite = next_field(cursor, 6);
+    uint64_t biases = next_field(cursor, 5);
+    for (uint64_t i = 0; i < biases && !cursor->is_short; i++) {
+        uint64_t signal = next_field(cursor, 5);
+        uint64_t bias = next_field(cursor, 14);
+        if (!cursor->is_short)
+            add_record(records, satellite, signal, as_twos(bias, 14));
+    }
+}
+
+uint32_t ref_1059_read(const uint8_t *data, size_t data_len, size_t start, uint8_t *satellites, size_t satellites_len,
+                       uint8_t *signals, size_t signals_len, int16_t *biases, size_t biases_len,
+                       uint64_t *extra, size_t extra_len)
+{
+    if (extra_len != PV_EXTRA_SIZE)
+        return PV_SIZE;
+    if (data_len > PV_DATA_MAX || satellites_len != signals_len || satellites_len != biases_len)
+        return refuse(extra, PV_SIZE, 0);
+    struct cursor cursor = { data, data_len, start, 0 };
+    struct records records = { .count = 0 };
+    uint64_t satellite_count = next_field(&cursor, 6);
+    for (uint64_t i = 0; i < satellite_count && !cursor.is_short; i++)
+        read_satellite(&cursor, &records);
+    if (cursor.is_short)
+        return refuse(extra, PV_SHORT, cursor.place);
+    if (satellites_len < records.count)
+        return refuse(extra, PV_ROOM, records.count);
+    for (size_t i = 0; i < records.count; i++) {
+        satellites[i] = records.satellites[i];
+        signals[i] = records.signals[i];
+        biases[i] = records.biases[i];
+    }
+    return accept_two(extra, records.count, cursor.place);
+}
+
+/* The glo numbers of the 1230 signals, in mask order. */
+static const uint8_t mask_signals[4] = { 2, 3, 8, 9 };
+
+uint32_t ref_1230_read(const uint8_t *data, size_t data_len, size_t start, uint8_t *signals, size_t signals_len,
+                       int16_t *biases, size_t biases_len, uint64_t *extra, size_t extra_len)
+{
+    if (extra_len != PV_EXTRA_SIZE)
+        return PV_SIZE;
+    if (data_len > PV_DATA_MAX || signals_len != biases_len)
+        return refuse(extra, PV_SIZE, 0);
+    struct cursor cursor = { data, data_len, start, 0 };
+    struct records records = { .count = 0 };
+    uint64_t mask = next_field(&cursor, 4);
+    for (size_t i = 0; i < 4 && !cursor.is_short; i++) {
+        if (!(mask >> (3 - i) & 1))
+            continue;
+        uint64_t bias = next_field(&cursor, 16);
+        if (!cursor.is_short)
+            add_record(&records, 0, mask_signals[i], as_twos(bias, 16));
+    }
+    if (cursor.is_short)
+        return refuse(extra, PV_SHORT, cursor.place);
+    if (signals_len < records.count)
+        return refuse(extra, PV_ROOM, records.count);
+    for (size_t i = 0; i < records.count; i++) {
+        signals[i] = records.signals[i];
+        biases[i] = records.biases[i];
+    }
+    return accept_two(extra, records.count, cursor.place);
+}
+
+/* ---- Writing of blocks. ---- */
+
+static int is_1059_signal(uint8_t signal)
+{
+    static const uint8_t known[] = { 0, 1, 2, 5, 6, 7, 8, 9, 10, 11, 14, 15 };
+    for (size_t i = 0; i < sizeof known; i++)
+        if (known[i] == signal)
+            return 1;
+    return 0;
+}
+
+static uint32_t fault_of_1059(uint8_t satellite, uint8_t signal, int16_t bias)
+{
+    if (satellite > 63)
+        return PV_SATELLITE;
+    if (!is_1059_signal(signal))
+        return PV_SIGNAL;
+    if (!fits_twos(bias, 14))
+        return PV_RANGE;
+    return PV_ACCEPTED;
+}
+
+static size_t count_of(const uint8_t *list, size_t list_len, unsigned number)
+{
+    size_t count = 0;
+    for (size_t i = 0; i < list_len; i++)
+        count += list[i] == number;
+    return count;
+}
+
+static size_t different_satellites(const uint8_t *satellites, size_t satellites_len)
+{
+    size_t different = 0;
+    for (unsigned satellite = 0; satellite < 64; satellite++)
+        different += count_of(satellites, satellites_len, satellite) > 0;
+    return different;
+}
+
+/* The lowest satellite with over 31 biases; else 64 if there are 64 different satellites; else -1. */
+static int too_many(const uint8_t *satellites, size_t satellites_len)
+{
+    for (unsigned satellite = 0; satellite < 64; satellite++)
+        if (count_of(satellites, satellites_len, satellite) > 31)
+            return (int)satellite;
+    return different_satellites(satellites, satellites_len) == 64 ? 64 : -1;
+}
+
+static size_t put_satellite(uint8_t *data, size_t place, unsigned satellite, const uint8_t *satellites,
+                            const uint8_t *signals, const int16_t *biases, size_t count)
+{
+    put_field(data, place, 6, satellite);
+    put_field(data, place + 6, 5, count_of(satellites, count, satellite));
+    place += 11;
+    for (size_t i = 0; i < count; i++) {
+        if (satellites[i] != satellite)
+            continue;
+        put_field(data, place, 5, signals[i]);
+        put_field(data, place + 5, 14, (uint64_t)biases[i]);
+        place += 19;
+    }
+    return place;
+}
+
+uint32_t ref_1059_write(uint8_t *data, size_t data_len, size_t start, const uint8_t *satellites, size_t satellites_len,
+                        const uint8_t *signals, size_t signals_len, const int16_t *biases, size_t biases_len,
+                        uint64_t *extra, size_t extra_len)
+{
+    if (extra_len != PV_EXTRA_SIZE)
+        return PV_SIZE;
+    size_t count = satellites_len;
+    if (data_len > PV_DATA_MAX || count != signals_len || count != biases_len || count > PV_1059_WRITE_MAX)
+        return refuse(extra, PV_SIZE, 0);
+    for (size_t i = 0; i < count; i++) {
+        uint32_t fault = fault_of_1059(satellites[i], signals[i], biases[i]);
+        if (fault != PV_ACCEPTED)
+            return refuse(extra, fault, i);
+    }
+    int over = too_many(satellites, count);
+    if (over >= 0)
+        return refuse(extra, PV_TOO_MANY, (uint64_t)over);
+    size_t different = different_satellites(satellites, count);
+    size_t bits = 6 + 11 * different + 19 * count;
+    if (!fits_in(data_len, start, bits))
+        return refuse(extra, PV_ROOM, bits);
+    put_field(data, start, 6, different);
+    size_t place = start + 6;
+    for (unsigned satellite = 0; satellite < 64; satellite++)
+        if (count_of(satellites, count, satellite) > 0)
+            place = put_satellite(data, place, satellite, satellites, signals, biases, count);
+    return accept_one(extra, place);
+}
+
+static int is_1230_signal(uint8_t signal)
+{
+    return count_of(mask_signals, 4, signal) > 0;
+}
+
+uint32_t ref_1230_write(uint8_t *data, size_t data_len, size_t start, const uint8_t *signals, size_t signals_len,
+                        const int16_t *biases, size_t biases_len, uint64_t *extra, size_t extra_len)
+{
+    if (extra_len != PV_EXTRA_SIZE)
+        return PV_SIZE;
+    if (data_len > PV_DATA_MAX || signals_len != biases_len || signals_len > PV_1230_MAX)
+        return refuse(extra, PV_SIZE, 0);
+    for (size_t i = 0; i < signals_len; i++)
+        if (!is_1230_signal(signals[i]))
+            return refuse(extra, PV_SIGNAL, i);
+    for (size_t i = 0; i < signals_len; i++)
+        if (count_of(signals, i, signals[i]) > 0)
+            return refuse(extra, PV_DUPLICATE, i);
+    size_t bits = 4 + 16 * signals_len;
+    if (!fits_in(data_len, start, bits))
+        return refuse(extra, PV_ROOM, bits);
+    size_t place = start + 4;
+    for (size_t m = 0; m < 4; m++) {
+        set_bit(data, start + m, count_of(signals, signals_len, mask_signals[m]) > 0);
+        for (size_t i = 0; i < signals_len; i++) {
+            if (signals[i] != mask_signals[m])
+                continue;
+            put_field(data, place, 16, (uint64_t)biases[i]);
+            place += 16;
+        }
+    }
+    return accept_one(extra, place);
+}
+
+/* ---- Metres. ---- */
+
+float ref_1059_metres(int16_t raw)
+{
+    return (float)raw * 0.01f;
+}
+
+float ref_1230_metres(int16_t raw)
+{
+    return (float)raw * 0.02f;
+}
+
+/* ---- Signal tables. ---- */
+
+struct signal {
+    uint32_t number;
+    uint32_t band;
+    uint32_t letter;
+};
+
+static const struct signal gps[] = {
+    { 2, 1, 'C' }, { 3, 1, 'P' }, { 4, 1, 'W' }, { 8, 2, 'C' }, { 9, 2, 'P' },
+    { 10, 2, 'W' }, { 15, 2, 'S' }, { 16, 2, 'L' }, { 17, 2, 'X' }, { 22, 5, 'I' },
+    { 23, 5, 'Q' }, { 24, 5, 'X' }, { 30, 1, 'S' }, { 31, 1, 'L' }, { 32, 1, 'X' },
+};
+static const struct signal glo[] = { { 2, 1, 'C' }, { 3, 1, 'P' }, { 8, 2, 'C' }, { 9, 2, 'P' } };
+static const struct signal gal[] = {
+    { 2, 1, 'C' }, { 3, 1, 'A' }, { 4, 1, 'B' }, { 5, 1, 'X' }, { 6, 1, 'Z' },
+    { 8, 6, 'C' }, { 9, 6, 'A' }, { 10, 6, 'B' }, { 11, 6, 'X' }, { 12, 6, 'Z' },
+    { 14, 7, 'I' }, { 15, 7, 'Q' }, { 16, 7, 'X' }, { 18, 8, 'I' }, { 19, 8, 'Q' },
+    { 20, 8, 'X' }, { 22, 5, 'I' }, { 23, 5, 'Q' }, { 24, 5, 'X' },
+};
+static const struct signal sbas[] = { { 2, 1, 'C' }, { 22, 5, 'I' }, { 23, 5, 'Q' }, { 24, 5, 'X' } };
+static const struct signal qzss[] = {
+    { 2, 1, 'C' }, { 9, 6, 'S' }, { 10, 6, 'L' }, { 11, 6, 'X' }, { 15, 2, 'S' },
+    { 16, 2, 'L' }, { 17, 2, 'X' }, { 22, 5, 'I' }, { 23, 5, 'Q' }, { 24, 5, 'X' },
+    { 30, 1, 'S' }, { 31, 1, 'L' }, { 32, 1, 'X' },
+};
+static const struct signal bds[] = {
+    { 2, 2, 'I' }, { 3, 2, 'Q' }, { 4, 2, 'X' }, { 8, 6, 'I' }, { 9, 6, 'Q' }, { 10, 6, 'X' },
+    { 14, 7, 'I' }, { 15, 7, 'Q' }, { 16, 7, 'X' }, { 22, 5, 'D' }, { 23, 5, 'P' }, { 24, 5, 'X' },
+    { 25, 7, 'D' }, { 30, 1, 'D' }, { 31, 1, 'P' }, { 32, 1, 'X' },
+};
+static const struct signal navic[] = { { 8, 9, 'A' }, { 22, 5, 'A' } };
+
+struct table {
+    const struct signal *entries;
+    size_t count;
+};
+
+#define TABLE(entries) { entries, sizeof entries / sizeof entries[0] }
+static const struct table tables[] = {
+    TABLE(gps), TABLE(glo), TABLE(gal), TABLE(sbas), TABLE(qzss), TABLE(bds), TABLE(navic),
+};
+
+static struct table table_of(uint32_t system)
+{
+    static const struct table empty = { NULL, 0 };
+    return system < sizeof tables / sizeof tables[0] ? tables[system] : empty;
+}
+
+static const struct signal *by_number(uint32_t system, uint32_t number)
+{
+    struct table table = table_of(system);
+    for (size_t i = 0; i < table.count; i++)
+        if (table.entries[i].number == number)
+            return table.entries + i;
+    return NULL;
+}
+
+static const struct signal *by_name(uint32_t system, uint32_t band, uint32_t letter)
+{
+    struct table table = table_of(system);
+    for (size_t i = 0; i < table.count; i++)
+        if (table.entries[i].band == band && table.entries[i].letter == letter)
+            return table.entries + i;
+    return NULL;
+}
+
+uint32_t ref_signal_of(uint32_t system, uint32_t number, uint64_t *extra, size_t extra_len)
+{
+    if (extra_len != PV_EXTRA_SIZE)
+        return PV_SIZE;
+    const struct signal *signal = by_number(system, number);
+    clear(extra);
+    if (signal != NULL) {
+        extra[PV_AT_SIGNAL_FOUND] = 1;
+        extra[PV_AT_SIGNAL_BAND] = signal->band;
+        extra[PV_AT_SIGNAL_LETTER] = signal->letter;
+    }
+    return PV_ACCEPTED;
+}
+
+uint32_t ref_number_of(uint32_t system, uint32_t band, uint32_t letter, uint64_t *extra, size_t extra_len)
+{
+    if (extra_len != PV_EXTRA_SIZE)
+        return PV_SIZE;
+    const struct signal *signal = by_name(system, band, letter);
+    clear(extra);
+    if (signal != NULL) {
+        extra[PV_AT_NUMBER_FOUND] = 1;
+        extra[PV_AT_NUMBER] = signal->number;
+    }
+    return PV_ACCEPTED;
+}
+
+static int64_t compare(uint32_t a, uint32_t b)
+{
+    return a < b ? -1 : a > b ? 1 : 0;
+}
+
+uint32_t ref_signal_order(uint32_t system, uint32_t band_a, uint32_t letter_a, uint32_t band_b, uint32_t letter_b,
+                          uint64_t *extra, size_t extra_len)
+{
+    if (extra_len != PV_EXTRA_SIZE)
+        return PV_SIZE;
+    const struct signal *a = by_name(system, band_a, letter_a);
+    const struct signal *b = by_name(system, band_b, letter_b);
+    int64_t order;
+    if (a != NULL && b != NULL)
+        order = compare(a->number, b->number);
+    else if (a != NULL)
+        order = -1;
+    else if (b != NULL)
+        order = 1;
+    else
+        order = band_a != band_b ? compare(band_a, band_b) : compare(letter_a, letter_b);
+    return accept_one(extra, (uint64_t)order);
+}

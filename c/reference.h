@@ -1,0 +1,61 @@
+/*
+ * A plain reference of every function of peerivolt.h, for tests only. It has the same parameters and answers under names
+ * that begin with ref_. It is written to be read beside the rules: bit by bit, byte by byte, and slow.
+ */
+#ifndef PEERIVOLT_REFERENCE_H
+#define PEERIVOLT_REFERENCE_H
+
+#include <stddef.h>
+#include <stdint.h>
+
+uint32_t ref_crc24q(const uint8_t *bytes, size_t bytes_len);
+
+uint32_t ref_field_read_unsigned(const uint8_t *data, size_t data_len, size_t start, size_t width,
+                                 uint64_t *extra, size_t extra_len);
+uint32_t ref_field_read_twos(const uint8_t *data, size_t data_len, size_t start, size_t width,
+                             uint64_t *extra, size_t extra_len);
+uint32_t ref_field_read_signmag(const uint8_t *data, size_t data_len, size_t start, size_t width,
+                                uint64_t *extra, size_t extra_len);
+uint32_t ref_field_write_unsigned(uint8_t *data, size_t data_len, size_t start, size_t width, uint64_t value,
+                                  uint64_t *extra, size_t extra_len);
+uint32_t ref_field_write_twos(uint8_t *data, size_t data_len, size_t start, size_t width, int64_t value,
+                              uint64_t *extra, size_t extra_len);
+uint32_t ref_field_write_signmag(uint8_t *data, size_t data_len, size_t start, size_t width, int64_t value,
+                                 uint64_t *extra, size_t extra_len);
+
+uint32_t ref_frame_check(const uint8_t *bytes, size_t bytes_len, uint64_t *extra, size_t extra_len);
+uint32_t ref_frame_write(const uint8_t *data, size_t data_len, uint8_t *out, size_t out_len,
+                         uint64_t *extra, size_t extra_len);
+
+uint32_t ref_feed(uint8_t *held, size_t held_len, size_t held_count, const uint8_t *piece, size_t piece_len,
+                  uint8_t *out, size_t out_len, uint64_t *extra, size_t extra_len);
+
+uint32_t ref_1059_read(const uint8_t *data, size_t data_len, size_t start, uint8_t *satellites, size_t satellites_len,
+                       uint8_t *signals, size_t signals_len, int16_t *biases, size_t biases_len,
+                       uint64_t *extra, size_t extra_len);
+uint32_t ref_1059_write(uint8_t *data, size_t data_len, size_t start, const uint8_t *satellites, size_t satellites_len,
+                        const uint8_t *signals, size_t signals_len, const int16_t *biases, size_t biases_len,
+                        uint64_t *extra, size_t extra_len);
+float ref_1059_metres(int16_t raw);
+
+uint32_t ref_1230_read(const uint8_t *data, size_t data_len, size_t start, uint8_t *signals, size_t signals_len,
+                       int16_t *biases, size_t biases_len, uint64_t *extra, size_t extra_len);
+uint32_t ref_1230_write(uint8_t *data, size_t data_len, size_t start, const uint8_t *signals, size_t signals_len,
+                        const int16_t *biases, size_t biases_len, uint64_t *extra, size_t extra_len);
+float ref_1230_metres(int16_t raw);
+
+uint32_t ref_signal_of(uint32_t system, uint32_t number, uint64_t *extra, size_t extra_len);
+uint32_t ref_number_of(uint32_t system, uint32_t band, uint32_t letter, uint64_t *extra, size_t extra_len);
+uint32_t ref_signal_order(uint32_t system, uint32_t band_a, uint32_t letter_a, uint32_t band_b, uint32_t letter_b,
+                          uint64_t *extra, size_t extra_len);
+
+/* What the scan of a whole stream says of one byte of it. */
+enum ref_fate { REF_SKIPPED, REF_FRAME, REF_HELD };
+
+/*
+ * The scan of a whole stream of any length. From `place` on: a byte to skip, a frame of *frame_len bytes, or the start of
+ * the bytes that are held.
+ */
+enum ref_fate ref_scan(const uint8_t *stream, size_t stream_len, size_t place, size_t *frame_len);
+
+#endif

@@ -1,0 +1,125 @@
+/*
+ * The names of peerivolt.h over the plain reference (or, with STAND_IN_PLAIN, over the plain C program where it has the
+ * function), so that the tests can be tried without the library itself. Never installed.
+ */
+#include "peerivolt.h"
+#include "plain.h"
+#include "reference.h"
+
+#ifdef STAND_IN_PLAIN
+#define EITHER(name) table_##name
+#else
+#define EITHER(name) ref_##name
+#endif
+
+uint32_t pv_crc24q(const uint8_t *bytes, size_t bytes_len)
+{
+    return EITHER(crc24q)(bytes, bytes_len);
+}
+
+uint32_t pv_field_read_unsigned(const uint8_t *data, size_t data_len, size_t start, size_t width,
+                                uint64_t *extra, size_t extra_len)
+{
+    return EITHER(field_read_unsigned)(data, data_len, start, width, extra, extra_len);
+}
+
+uint32_t pv_field_read_twos(const uint8_t *data, size_t data_len, size_t start, size_t width,
+                            uint64_t *extra, size_t extra_len)
+{
+    return ref_field_read_twos(data, data_len, start, width, extra, extra_len);
+}
+
+uint32_t pv_field_read_signmag(const uint8_t *data, size_t data_len, size_t start, size_t width,
+                               uint64_t *extra, size_t extra_len)
+{
+    return ref_field_read_signmag(data, data_len, start, width, extra, extra_len);
+}
+
+uint32_t pv_field_write_unsigned(uint8_t *data, size_t data_len, size_t start, size_t width, uint64_t value,
+                                 uint64_t *extra, size_t extra_len)
+{
+    return EITHER(field_write_unsigned)(data, data_len, start, width, value, extra, extra_len);
+}
+
+uint32_t pv_field_write_twos(uint8_t *data, size_t data_len, size_t start, size_t width, int64_t value,
+                             uint64_t *extra, size_t extra_len)
+{
+    return ref_field_write_twos(data, data_len, start, width, value, extra, extra_len);
+}
+
+uint32_t pv_field_write_signmag(uint8_t *data, size_t data_len, size_t start, size_t width, int64_t value,
+                                uint64_t *extra, size_t extra_len)
+{
+    return ref_field_write_signmag(data, data_len, start, width, value, extra, extra_len);
+}
+
+uint32_t pv_frame_check(const uint8_t *bytes, size_t bytes_len, uint64_t *extra, size_t extra_len)
+{
+    return EITHER(frame_check)(bytes, bytes_len, extra, extra_len);
+}
+
+uint32_t pv_frame_write(const uint8_t *data, size_t data_len, uint8_t *out, size_t out_len,
+                        uint64_t *extra, size_t extra_len)
+{
+    return EITHER(frame_write)(data, data_len, out, out_len, extra, extra_len);
+}
+
+uint32_t pv_feed(uint8_t *held, size_t held_len, size_t held_count, const uint8_t *piece, size_t piece_len,
+                 uint8_t *out, size_t out_len, uint64_t *extra, size_t extra_len)
+{
+    return EITHER(feed)(held, held_len, held_count, piece, piece_len, out, out_len, extra, extra_len);
+}
+
+uint32_t pv_1059_read(const uint8_t *data, size_t data_len, size_t start, uint8_t *satellites, size_t satellites_len,
+                      uint8_t *signals, size_t signals_len, int16_t *biases, size_t biases_len,
+                      uint64_t *extra, size_t extra_len)
+{
+    return EITHER(1059_read)(data, data_len, start, satellites, satellites_len, signals, signals_len,
+                             biases, biases_len, extra, extra_len);
+}
+
+uint32_t pv_1059_write(uint8_t *data, size_t data_len, size_t start, const uint8_t *satellites, size_t satellites_len,
+                       const uint8_t *signals, size_t signals_len, const int16_t *biases, size_t biases_len,
+                       uint64_t *extra, size_t extra_len)
+{
+    return EITHER(1059_write)(data, data_len, start, satellites, satellites_len, signals, signals_len,
+                              biases, biases_len, extra, extra_len);
+}
+
+float pv_1059_metres(int16_t raw)
+{
+    return ref_1059_metres(raw);
+}
+
+uint32_t pv_1230_read(const uint8_t *data, size_t data_len, size_t start, uint8_t *signals, size_t signals_len,
+                      int16_t *biases, size_t biases_len, uint64_t *extra, size_t extra_len)
+{
+    return EITHER(1230_read)(data, data_len, start, signals, signals_len, biases, biases_len, extra, extra_len);
+}
+
+uint32_t pv_1230_write(uint8_t *data, size_t data_len, size_t start, const uint8_t *signals, size_t signals_len,
+                       const int16_t *biases, size_t biases_len, uint64_t *extra, size_t extra_len)
+{
+    return EITHER(1230_write)(data, data_len, start, signals, signals_len, biases, biases_len, extra, extra_len);
+}
+
+float pv_1230_metres(int16_t raw)
+{
+    return ref_1230_metres(raw);
+}
+
+uint32_t pv_signal_of(uint32_t system, uint32_t number, uint64_t *extra, size_t extra_len)
+{
+    return ref_signal_of(system, number, extra, extra_len);
+}
+
+uint32_t pv_number_of(uint32_t system, uint32_t band, uint32_t letter, uint64_t *extra, size_t extra_len)
+{
+    return ref_number_of(system, band, letter, extra, extra_len);
+}
+
+uint32_t pv_signal_order(uint32_t system, uint32_t band_a, uint32_t letter_a, uint32_t band_b, uint32_t letter_b,
+                         uint64_t *extra, size_t extra_len)
+{
+    return ref_signal_order(system, band_a, letter_a, band_b, letter_b, extra, extra_len);
+}

@@ -1,0 +1,1001 @@
+/* Every function of the header: what it answers, its limits, its refusals and their order, and what it leaves alone. */
+#include "test.h"
+
+/* The areas of the call under test. A refused call must leave all of them as they were, but for `extra`. */
+static struct area data, out, held, piece, satellites, signals, biases, extra;
+static struct area *const lent[] = { &data, &out, &held, &piece, &satellites, &signals, &biases };
+
+/* Every call starts from areas that are kept and an extra area full of rubbish. */
+static void ready(void)
+{
+    for (size_t i = 0; i < sizeof lent / sizeof lent[0]; i++)
+        area_keep(lent[i]);
+    area_lend(&extra, PV_EXTRA_SIZE * sizeof(uint64_t), 0xEE);
+}
+
+static void nothing_written(const char *what, int line)
+{
+    for (size_t i = 0; i < sizeof lent / sizeof lent[0]; i++)
+        check_equal(area_same(lent[i]), 1, what, __FILE__, line);
+}
+
+static void extra_is(const uint64_t *expected, size_t n, const char *what, int line)
+{
+    const uint64_t *numbers = area_u64(&extra);
+    for (size_t i = 0; i < PV_EXTRA_SIZE; i++)
+        check_equal(numbers[i], i < n ? expected[i] : 0, what, __FILE__, line);
+    check_equal(area_guard_same(&extra), 1, what, __FILE__, line);
+}
+
+#define EXTRA area_u64(&extra), PV_EXTRA_SIZE
+#define DATA data.bytes, data.size
+#define OUT out.bytes, out.size
+#define LISTS_1059 satellites.bytes, satellites.size, signals.bytes, signals.size, area_i16(&biases), biases.size / 2
+#define LISTS_1230 signals.bytes, signals.size, area_i16(&biases), biases.size / 2
+
+static void refused(uint32_t got, uint32_t number, uint64_t carried, const char *what, int line)
+{
+    check_equal(got, number, what, __FILE__, line);
+    extra_is(&carried, 1, what, line);
+    nothing_written(what, line);
+}
+
+static void accepted(uint32_t got, const uint64_t *numbers, size_t n, const char *what, int line)
+{
+    check_equal(got, PV_ACCEPTED, what, __FILE__, line);
+    extra_is(numbers, n, what, line);
+}
+
+#define REFUSED(call, number, carried) (ready(), refused((call), (number), (carried), #call, __LINE__))
+#define ACCEPTED(call, ...)                                                                                            \
+    (ready(), accepted((call), (const uint64_t[]){ __VA_ARGS__ }, sizeof((const uint64_t[]){ __VA_ARGS__ }) / 8, #call, \
+                       __LINE__))
+
+/* Lends an area with these bytes. */
+#define LEND(area, ...) lend_bytes(&(area), (const uint8_t[]){ __VA_ARGS__ }, sizeof((const uint8_t[]){ __VA_ARGS__ }))
+static void lend_bytes(struct area *area, const uint8_t *bytes, size_t n)
+{
+    area_lend(area, n, 0);
+    memcpy(area->bytes, bytes, n);
+}
+
+#define HAS(area, ...)                                                                                                 \
+    CHECK((area).size >= sizeof((const uint8_t[]){ __VA_ARGS__ }) &&                                                   \
+          memcmp((area).bytes, (const uint8_t[]){ __VA_ARGS__ }, sizeof((const uint8_t[]){ __VA_ARGS__ })) == 0)
+
+static void lend_1059(size_t n)
+{
+    area_lend(&satellites, n, 0);
+    area_lend(&signals, n, 0);
+    area_lend(&biases, 2 * n, 0);
+}
+
+static void set_1059(size_t i, unsigned satellite, unsigned signal, int bias)
+{
+    satellites.bytes[i] = (uint8_t)satellite;
+    signals.bytes[i] = (uint8_t)signal;
+    area_i16(&biases)[i] = (int16_t)bias;
+}
+
+static void lend_1230(size_t n)
+{
+    area_lend(&signals, n, 0);
+    area_lend(&biases, 2 * n, 0);
+}
+
+static void set_1230(size_t i, unsigned signal, int bias)
+{
+    signals.bytes[i] = (uint8_t)signal;
+    area_i16(&biases)[i] = (int16_t)bias;
+}
+
+#define SIGNED(number) ((uint64_t)(int64_t)(number))
+
+/* ---- The marked examples. ---- */
+
+static uint32_t feed_all(size_t *count)
+{
+    uint32_t got = pv_feed(held.bytes, held.size, *count, piece.bytes, piece.size, OUT, EXTRA);
+    if (got == PV_ACCEPTED)
+        *count = area_u64(&extra)[PV_AT_FED_HELD_COUNT];
+    return got;
+}
+
+static void example_1_to_3(void)
+{
+    const uint8_t bytes[] = { 0xD3, 0, 0 };
+    CHECK_EQ(pv_crc24q(NULL, 0), 0);
+    CHECK_EQ(pv_crc24q(bytes, 0), 0);
+    CHECK_EQ(pv_crc24q(bytes, 1), 0xE33309);
+    CHECK_EQ(pv_crc24q(bytes, 3), 0x47EA4B);
+
+    LEND(data, 0xD3, 0, 0, 0x47, 0xEA, 0x4B);
+    ACCEPTED(pv_frame_check(DATA, EXTRA), 6, 0, 0, 0, 0x47EA4B);
+    LEND(data, 0xD3, 0, 0, 0x47, 0xEA, 0x4B, 0, 0);
+    ACCEPTED(pv_frame_check(DATA, EXTRA), 6, 0, 0, 0, 0x47EA4B);
+
+    LEND(data, 0xD3, 0, 0, 0x47, 0xEA, 0x4A);
+    REFUSED(pv_frame_check(DATA, EXTRA), PV_NOT_VALID, 0);
+    REFUSED(pv_frame_check(NULL, 0, EXTRA), PV_INCOMPLETE, 0);
+}
+
+static void example_4_and_5(void)
+{
+    size_t count = 0;
+    area_lend(&held, PV_HELD_SIZE, 0x77);
+    area_lend(&out, PV_FRAME_MAX + 3, 0x55);
+    LEND(piece, 0xD3, 0, 0, 0xD3, 0, 0, 0x47, 0xEA, 0x4B);
+    ACCEPTED(feed_all(&count), PV_FRAME, 9, 3, 0, 6);
+    HAS(out, 0xD3, 0, 0, 0x47, 0xEA, 0x4B, 0x55, 0x55);
+    CHECK(area_same(&held));
+    area_lend(&piece, 0, 0);
+    ACCEPTED(feed_all(&count), PV_MORE);
+
+    count = 0;
+    LEND(piece, 0xD3, 0xD3, 0, 0, 0x47, 0xEA, 0x4B);
+    ACCEPTED(feed_all(&count), PV_MORE, 7, 0, 7, 0);
+    CHECK(area_same(&out));
+    HAS(held, 0xD3, 0xD3, 0, 0, 0x47, 0xEA, 0x4B, 0x77, 0x77);
+}
+
+static void example_6_and_7(void)
+{
+    LEND(data, 0xA5);
+    ACCEPTED(pv_field_read_unsigned(DATA, 2, 3, EXTRA), 4);
+    ACCEPTED(pv_field_read_twos(DATA, 2, 3, EXTRA), SIGNED(-4));
+    ACCEPTED(pv_field_read_signmag(DATA, 2, 3, EXTRA), 0);
+
+    area_lend(&data, 2, 0);
+    ACCEPTED(pv_field_write_twos(DATA, 0, 14, -8192, EXTRA), 14);
+    ACCEPTED(pv_field_read_twos(DATA, 0, 14, EXTRA), SIGNED(-8192));
+    ACCEPTED(pv_field_write_twos(DATA, 0, 14, 8191, EXTRA), 14);
+    ACCEPTED(pv_field_read_twos(DATA, 0, 14, EXTRA), 8191);
+    REFUSED(pv_field_write_twos(DATA, 0, 14, 8192, EXTRA), PV_RANGE, 0);
+    REFUSED(pv_field_write_twos(DATA, 0, 14, 10000, EXTRA), PV_RANGE, 0);
+}
+
+static void example_8_and_9(void)
+{
+    area_lend(&data, 5, 0);
+    lend_1059(1);
+    set_1059(0, 5, 0, 100);
+    ACCEPTED(pv_1059_write(DATA, 0, LISTS_1059, EXTRA), 36);
+    HAS(data, 0x04, 0x50, 0x80, 0x06, 0x40);
+    lend_1059(3);
+    ACCEPTED(pv_1059_read(DATA, 0, LISTS_1059, EXTRA), 1, 36);
+    CHECK(satellites.bytes[0] == 5 && signals.bytes[0] == 0 && area_i16(&biases)[0] == 100);
+
+    area_lend(&data, 5, 0);
+    lend_1230(2);
+    set_1230(0, 9, -1);
+    set_1230(1, 2, 1);
+    ACCEPTED(pv_1230_write(DATA, 0, LISTS_1230, EXTRA), 36);
+    HAS(data, 0x90, 0x00, 0x1F, 0xFF, 0xF0);
+    lend_1230(4);
+    ACCEPTED(pv_1230_read(DATA, 0, LISTS_1230, EXTRA), 2, 36);
+    CHECK(signals.bytes[0] == 2 && area_i16(&biases)[0] == 1);
+    CHECK(signals.bytes[1] == 9 && area_i16(&biases)[1] == -1);
+}
+
+/* ---- Checksum and fields. ---- */
+
+static void published_checksums(void)
+{
+    /* The published check value of CRC-24Q: start 0, of the nine digits. */
+    CHECK_EQ(pv_crc24q((const uint8_t *)"123456789", 9), 0xCDE703);
+    area_lend(&data, 65536, 0);
+    CHECK_EQ(pv_crc24q(DATA), 0);
+    data.bytes[65535] = 1;
+    CHECK_EQ(pv_crc24q(DATA), 0x864CFB);
+}
+
+typedef uint32_t read_field(const uint8_t *, size_t, size_t, size_t, uint64_t *, size_t);
+
+static void field_read_refusals(read_field *read)
+{
+    area_lend(&data, 1024, 0xFF);
+    REFUSED(read(DATA, 0, 1, EXTRA), PV_SIZE, 0);
+    REFUSED(read(DATA, SIZE_MAX, 0, EXTRA), PV_SIZE, 0);
+    REFUSED(read(DATA, 0, 65, EXTRA), PV_SIZE, 0);
+    area_lend(&data, 1023, 0);
+    REFUSED(read(DATA, SIZE_MAX, 0, EXTRA), PV_WIDTH, 0);
+    REFUSED(read(DATA, 0, 65, EXTRA), PV_WIDTH, 0);
+    REFUSED(read(DATA, 0, SIZE_MAX, EXTRA), PV_WIDTH, 0);
+    ACCEPTED(read(DATA, 8184 - 64, 64, EXTRA), 0);
+    REFUSED(read(DATA, 8184 - 63, 64, EXTRA), PV_SHORT, 8184 - 63);
+    ACCEPTED(read(DATA, 8183, 1, EXTRA), 0);
+    REFUSED(read(DATA, 8184, 1, EXTRA), PV_SHORT, 8184);
+    REFUSED(read(DATA, SIZE_MAX, 1, EXTRA), PV_SHORT, SIZE_MAX);
+    REFUSED(read(DATA, SIZE_MAX - 63, 64, EXTRA), PV_SHORT, SIZE_MAX - 63);
+    REFUSED(read(DATA, SIZE_MAX - 62, 64, EXTRA), PV_SHORT, SIZE_MAX - 62);
+    REFUSED(read(DATA, SIZE_MAX / 8 + 1, 8, EXTRA), PV_SHORT, SIZE_MAX / 8 + 1);
+    REFUSED(read(NULL, 0, 0, 1, EXTRA), PV_SHORT, 0);
+    REFUSED(read(NULL, 0, 7, 0, EXTRA), PV_WIDTH, 0);
+    LEND(data, 0xFF);
+    REFUSED(read(DATA, 1, 8, EXTRA), PV_SHORT, 1);
+    REFUSED(read(DATA, 0, 9, EXTRA), PV_SHORT, 0);
+}
+
+static void field_values(void)
+{
+    LEND(data, 0x80, 0, 0, 0, 0, 0, 0, 0, 0xFF);
+    ACCEPTED(pv_field_read_unsigned(DATA, 0, 64, EXTRA), 0x8000000000000000);
+    ACCEPTED(pv_field_read_twos(DATA, 0, 64, EXTRA), SIGNED(INT64_MIN));
+    ACCEPTED(pv_field_read_signmag(DATA, 0, 64, EXTRA), 0);
+    ACCEPTED(pv_field_read_unsigned(DATA, 1, 64, EXTRA), 1);
+    ACCEPTED(pv_field_read_unsigned(DATA, 8, 64, EXTRA), 0xFF);
+    ACCEPTED(pv_field_read_twos(DATA, 0, 1, EXTRA), SIGNED(-1));
+    ACCEPTED(pv_field_read_signmag(DATA, 0, 1, EXTRA), 0);
+    ACCEPTED(pv_field_read_signmag(DATA, 64, 8, EXTRA), SIGNED(-127));
+    ACCEPTED(pv_field_read_twos(DATA, 64, 8, EXTRA), SIGNED(-1));
+    CHECK(area_same(&data));
+}
+
+static void write_refusal_order(void)
+{
+    area_lend(&data, 1024, 0xFF);
+    REFUSED(pv_field_write_unsigned(DATA, 0, 0, 9, EXTRA), PV_SIZE, 0);
+    REFUSED(pv_field_write_twos(DATA, 0, 0, 9, EXTRA), PV_SIZE, 0);
+    REFUSED(pv_field_write_signmag(DATA, 0, 0, 9, EXTRA), PV_SIZE, 0);
+    area_lend(&data, 1023, 0xFF);
+    REFUSED(pv_field_write_unsigned(DATA, SIZE_MAX, 0, 9, EXTRA), PV_WIDTH, 0);
+    REFUSED(pv_field_write_twos(DATA, SIZE_MAX, 65, 9, EXTRA), PV_WIDTH, 0);
+    REFUSED(pv_field_write_signmag(DATA, SIZE_MAX, SIZE_MAX, 9, EXTRA), PV_WIDTH, 0);
+    REFUSED(pv_field_write_unsigned(DATA, SIZE_MAX, 3, 8, EXTRA), PV_RANGE, 0);
+    REFUSED(pv_field_write_unsigned(DATA, SIZE_MAX, 3, 7, EXTRA), PV_ROOM, 3);
+    REFUSED(pv_field_write_unsigned(DATA, 8184 - 63, 64, UINT64_MAX, EXTRA), PV_ROOM, 64);
+    ACCEPTED(pv_field_write_unsigned(DATA, 8184 - 64, 64, UINT64_MAX, EXTRA), 8184);
+    REFUSED(pv_field_write_twos(DATA, 8184, 1, 0, EXTRA), PV_ROOM, 1);
+    REFUSED(pv_field_write_signmag(DATA, SIZE_MAX - 1, 4, -7, EXTRA), PV_ROOM, 4);
+    REFUSED(pv_field_write_unsigned(NULL, 0, 0, 1, 0, EXTRA), PV_ROOM, 1);
+    REFUSED(pv_field_write_twos(NULL, 0, 0, 0, 0, EXTRA), PV_WIDTH, 0);
+    REFUSED(pv_field_write_signmag(NULL, 0, 0, 2, 2, EXTRA), PV_RANGE, 0);
+}
+
+/* Writes and reads back at the ends of the range of one width, and just outside. */
+static void range_of_width(size_t width)
+{
+    uint64_t most = width == 64 ? UINT64_MAX : ((uint64_t)1 << width) - 1;
+    int64_t limit = (int64_t)(most >> 1);
+    area_lend(&data, 9, 0x5A);
+    ACCEPTED(pv_field_write_unsigned(DATA, 3, width, most, EXTRA), 3 + width);
+    ACCEPTED(pv_field_read_unsigned(DATA, 3, width, EXTRA), most);
+    ACCEPTED(pv_field_write_twos(DATA, 3, width, -limit - 1, EXTRA), 3 + width);
+    ACCEPTED(pv_field_read_twos(DATA, 3, width, EXTRA), SIGNED(-limit - 1));
+    ACCEPTED(pv_field_write_twos(DATA, 3, width, limit, EXTRA), 3 + width);
+    ACCEPTED(pv_field_read_twos(DATA, 3, width, EXTRA), SIGNED(limit));
+    ACCEPTED(pv_field_write_signmag(DATA, 3, width, -limit, EXTRA), 3 + width);
+    ACCEPTED(pv_field_read_signmag(DATA, 3, width, EXTRA), SIGNED(-limit));
+    ACCEPTED(pv_field_write_signmag(DATA, 3, width, limit, EXTRA), 3 + width);
+    ACCEPTED(pv_field_read_signmag(DATA, 3, width, EXTRA), SIGNED(limit));
+    REFUSED(pv_field_write_signmag(DATA, 3, width, -limit - 1, EXTRA), PV_RANGE, 0);
+    if (width == 64)
+        return;
+    REFUSED(pv_field_write_unsigned(DATA, 3, width, most + 1, EXTRA), PV_RANGE, 0);
+    REFUSED(pv_field_write_unsigned(DATA, 3, width, UINT64_MAX, EXTRA), PV_RANGE, 0);
+    REFUSED(pv_field_write_twos(DATA, 3, width, limit + 1, EXTRA), PV_RANGE, 0);
+    REFUSED(pv_field_write_twos(DATA, 3, width, -limit - 2, EXTRA), PV_RANGE, 0);
+    REFUSED(pv_field_write_twos(DATA, 3, width, INT64_MIN, EXTRA), PV_RANGE, 0);
+    REFUSED(pv_field_write_signmag(DATA, 3, width, limit + 1, EXTRA), PV_RANGE, 0);
+    REFUSED(pv_field_write_signmag(DATA, 3, width, INT64_MIN, EXTRA), PV_RANGE, 0);
+}
+
+static void exactly_the_named_bits(void)
+{
+    area_lend(&data, 4, 0xFF);
+    ACCEPTED(pv_field_write_unsigned(DATA, 5, 14, 0, EXTRA), 19);
+    HAS(data, 0xF8, 0x00, 0x1F, 0xFF);
+    area_lend(&data, 4, 0);
+    ACCEPTED(pv_field_write_unsigned(DATA, 5, 14, 0x3FFF, EXTRA), 19);
+    HAS(data, 0x07, 0xFF, 0xE0, 0x00);
+    area_lend(&data, 1, 0);
+    ACCEPTED(pv_field_write_signmag(DATA, 2, 4, -1, EXTRA), 6);
+    HAS(data, 0x24);
+}
+
+static void fields(void)
+{
+    field_read_refusals(pv_field_read_unsigned);
+    field_read_refusals(pv_field_read_twos);
+    field_read_refusals(pv_field_read_signmag);
+    field_values();
+    write_refusal_order();
+    for (size_t width = 1; width <= 64; width++)
+        range_of_width(width);
+    exactly_the_named_bits();
+}
+
+/* ---- Frames. ---- */
+
+static void frame_refusal_order(void)
+{
+    LEND(data, 1, 2, 3, 4, 5);
+    REFUSED(pv_frame_check(DATA, EXTRA), PV_INCOMPLETE, 0);
+    LEND(data, 1, 2, 3, 4, 5, 6);
+    REFUSED(pv_frame_check(DATA, EXTRA), PV_NOT_VALID, 0);
+    LEND(data, 0xD3, 0, 1, 0, 0, 0);
+    REFUSED(pv_frame_check(DATA, EXTRA), PV_INCOMPLETE, 0);
+    LEND(data, 0xD3, 0, 1, 0, 0, 0, 0);
+    REFUSED(pv_frame_check(DATA, EXTRA), PV_NOT_VALID, 0);
+}
+
+/* Frames data of a length, checks what the check says of it, and that each cut and each flipped bit is noticed. */
+static void frame_of_length(size_t n)
+{
+    area_lend(&data, n, 0x3C);
+    area_lend(&out, n + 8, 0x99);
+    ACCEPTED(pv_frame_write(DATA, OUT, EXTRA), n + 6);
+    CHECK(area_same(&data));
+    CHECK(out.bytes[0] == 0xD3 && out.bytes[1] == n >> 8 && out.bytes[2] == (n & 0xFF));
+    CHECK(out.bytes[n + 6] == 0x99 && out.bytes[n + 7] == 0x99);
+    uint32_t sum = pv_crc24q(out.bytes, n + 3);
+    ACCEPTED(pv_frame_check(out.bytes, n + 6, EXTRA), n + 6, n, n >= 2, n >= 2 ? 0x3C3 : 0, sum);
+    ACCEPTED(pv_frame_check(OUT, EXTRA), n + 6, n, n >= 2, n >= 2 ? 0x3C3 : 0, sum);
+    REFUSED(pv_frame_check(out.bytes, n + 5, EXTRA), PV_INCOMPLETE, 0);
+    out.bytes[n + 5] ^= 1;
+    REFUSED(pv_frame_check(OUT, EXTRA), PV_NOT_VALID, 0);
+    area_lend(&out, n + 5, 0x99);
+    REFUSED(pv_frame_write(DATA, OUT, EXTRA), PV_ROOM, n + 6);
+    REFUSED(pv_frame_write(DATA, NULL, 0, EXTRA), PV_ROOM, n + 6);
+}
+
+static void frames(void)
+{
+    frame_refusal_order();
+    const size_t lengths[] = { 0, 1, 2, 3, 19, 255, 256, 511, 512, 1022, 1023 };
+    for (size_t i = 0; i < sizeof lengths / sizeof lengths[0]; i++)
+        frame_of_length(lengths[i]);
+    area_lend(&data, 1024, 0);
+    REFUSED(pv_frame_write(DATA, NULL, 0, EXTRA), PV_SIZE, 0);
+    area_lend(&out, 6, 0);
+    ACCEPTED(pv_frame_write(NULL, 0, OUT, EXTRA), 6);
+    HAS(out, 0xD3, 0, 0, 0x47, 0xEA, 0x4B);
+
+    /* The reserved bits are ignored on reading. */
+    LEND(data, 0xD3, 0xFC, 0x00, 0, 0, 0);
+    uint32_t sum = pv_crc24q(data.bytes, 3);
+    data.bytes[3] = (uint8_t)(sum >> 16);
+    data.bytes[4] = (uint8_t)(sum >> 8);
+    data.bytes[5] = (uint8_t)sum;
+    ACCEPTED(pv_frame_check(DATA, EXTRA), 6, 0, 0, 0, sum);
+
+    /* A message number is in the data alone: with one data byte there is none. */
+    area_lend(&data, 1, 0xFF);
+    area_lend(&out, 9, 0);
+    ACCEPTED(pv_frame_write(DATA, OUT, EXTRA), 7);
+    ACCEPTED(pv_frame_check(OUT, EXTRA), 7, 1, 0, 0, pv_crc24q(out.bytes, 4));
+}
+
+/* ---- Feeding. ---- */
+
+static void feed_refusals(void)
+{
+    area_lend(&held, PV_HELD_SIZE, 0x11);
+    area_lend(&piece, 65537, 0xD3);
+    area_lend(&out, PV_FRAME_MAX - 1, 0x22);
+    REFUSED(pv_feed(held.bytes, 1029, 1030, piece.bytes, 65537, OUT, EXTRA), PV_STATE, 0);
+    REFUSED(pv_feed(held.bytes, 1029, SIZE_MAX, NULL, 0, NULL, 0, EXTRA), PV_STATE, 0);
+    REFUSED(pv_feed(held.bytes, 1029, 1029, piece.bytes, 65537, OUT, EXTRA), PV_SIZE, 0);
+    REFUSED(pv_feed(held.bytes, 1029, 0, piece.bytes, 65536, OUT, EXTRA), PV_ROOM, 1029);
+    REFUSED(pv_feed(held.bytes, 1029, 0, NULL, 0, NULL, 0, EXTRA), PV_ROOM, 1029);
+
+    /* A held area of another size writes nothing at all, whatever else is wrong. */
+    const size_t wrong[] = { 0, 1, 1028, 1030, 2058 };
+    for (size_t i = 0; i < sizeof wrong / sizeof wrong[0]; i++) {
+        area_lend(&held, wrong[i], 0x11);
+        ready();
+        CHECK_EQ(pv_feed(held.bytes, held.size, 0, piece.bytes, 10, OUT, EXTRA), PV_SIZE);
+        CHECK_EQ(pv_feed(held.bytes, held.size, 1030, piece.bytes, 65537, NULL, 0, EXTRA), PV_SIZE);
+        nothing_written("a held area of another size", __LINE__);
+        CHECK(area_same(&extra));
+    }
+}
+
+/* A false D3 that announces 1,023 bytes, with a good frame and a stray byte behind it. */
+static void taken_is_the_furthest_byte_seen(void)
+{
+    size_t count = 0;
+    area_lend(&held, PV_HELD_SIZE, 0);
+    area_lend(&out, PV_FRAME_MAX, 0);
+    area_lend(&piece, 1040, 0x44);
+    memcpy(piece.bytes, (const uint8_t[]){ 0xD3, 0x03, 0xFF, 0xD3, 0, 0, 0x47, 0xEA, 0x4B }, 9);
+    ACCEPTED(feed_all(&count), PV_FRAME, 1029, 3, 1020, 6);
+    CHECK(area_same(&piece));
+    /* The held bytes do not begin with D3; an empty piece skips them all, more than it takes. */
+    CHECK_EQ(held.bytes[0], 0x44);
+    area_lend(&piece, 0, 0);
+    ACCEPTED(feed_all(&count), PV_MORE, 0, 1020, 0, 0);
+}
+
+/* Two frames wait behind a false D3: once it is decided, an empty piece hands out the second. */
+static void an_empty_piece_can_hand_out_a_frame(void)
+{
+    const uint8_t frame[] = { 0xD3, 0, 0, 0x47, 0xEA, 0x4B };
+    size_t count = 0;
+    area_lend(&held, PV_HELD_SIZE, 0);
+    area_lend(&out, PV_FRAME_MAX, 0);
+    area_lend(&piece, 19, 0x44);
+    memcpy(piece.bytes, (const uint8_t[]){ 0xD3, 0, 13 }, 3);
+    memcpy(piece.bytes + 3, frame, 6);
+    memcpy(piece.bytes + 9, frame, 6);
+    ACCEPTED(feed_all(&count), PV_FRAME, 19, 3, 10, 6);
+    area_lend(&piece, 0, 0);
+    ACCEPTED(feed_all(&count), PV_FRAME, 0, 0, 4, 6);
+    ACCEPTED(feed_all(&count), PV_MORE, 0, 4, 0, 0);
+}
+
+/* A frame of the longest length, byte by byte, and from a held area that is full. */
+static void the_longest_frame(void)
+{
+    uint8_t frame[PV_FRAME_MAX];
+    size_t count = 0;
+    area_lend(&data, PV_DATA_MAX, 0xD3);
+    area_lend(&out, PV_FRAME_MAX, 0);
+    area_lend(&held, PV_HELD_SIZE, 0x66);
+    ACCEPTED(pv_frame_write(DATA, OUT, EXTRA), PV_FRAME_MAX);
+    memcpy(frame, out.bytes, sizeof frame);
+    area_lend(&out, PV_FRAME_MAX + 1, 0x31);
+    for (size_t i = 0; i + 1 < sizeof frame; i++) {
+        LEND(piece, frame[i]);
+        ACCEPTED(feed_all(&count), PV_MORE, 1, 0, i + 1, 0);
+    }
+    CHECK(area_same(&out) && memcmp(held.bytes, frame, 1028) == 0 && held.bytes[1028] == 0x66);
+    LEND(piece, frame[1028]);
+    ACCEPTED(feed_all(&count), PV_FRAME, 1, 0, 0, 1029);
+    CHECK(memcmp(out.bytes, frame, sizeof frame) == 0 && out.bytes[1029] == 0x31);
+
+    memcpy(held.bytes, frame, sizeof frame);
+    count = PV_HELD_SIZE;
+    area_lend(&piece, 0, 0);
+    ACCEPTED(feed_all(&count), PV_FRAME, 0, 0, 0, 1029);
+    memset(held.bytes, 0x00, PV_HELD_SIZE);
+    count = PV_HELD_SIZE;
+    ACCEPTED(feed_all(&count), PV_MORE, 0, 1029, 0, 0);
+}
+
+static void the_longest_piece(void)
+{
+    size_t count = 0;
+    area_lend(&held, PV_HELD_SIZE, 0);
+    area_lend(&out, PV_FRAME_MAX, 0);
+    area_lend(&piece, PV_PIECE_MAX, 0xD2);
+    ACCEPTED(feed_all(&count), PV_MORE, 65536, 65536, 0, 0);
+    piece.bytes[65535] = 0xD3;
+    ACCEPTED(feed_all(&count), PV_MORE, 65536, 65535, 1, 0);
+    ready();
+    CHECK_EQ(pv_feed(held.bytes, 1029, 1, NULL, 0, OUT, EXTRA), PV_ACCEPTED);
+    CHECK_EQ(area_u64(&extra)[PV_AT_FED_HELD_COUNT], 1);
+}
+
+static void scanner_struct(void)
+{
+    static const uint8_t stream[] = { 9, 0xD3, 0, 0, 0x47, 0xEA, 0x4B, 0xD3 };
+    struct pv_scanner scanner = PV_SCANNER_FRESH;
+    struct pv_fed fed = { 7, 7, 7, 7 };
+    uint8_t frame[PV_FRAME_MAX] = { 0 };
+    CHECK_EQ(pv_scanner_feed(&scanner, stream, sizeof stream, frame, 1028, &fed), PV_ROOM);
+    CHECK(fed.is_frame == 7 && fed.taken == 7 && fed.skipped == 7 && fed.frame_len == 7 && scanner.held_count == 0);
+    CHECK_EQ(pv_scanner_feed(&scanner, stream, sizeof stream, frame, sizeof frame, &fed), PV_ACCEPTED);
+    CHECK(fed.is_frame == 1 && fed.taken == 7 && fed.skipped == 1 && fed.frame_len == 6 && scanner.held_count == 0);
+    CHECK_EQ(pv_scanner_feed(&scanner, stream + 7, 1, frame, sizeof frame, &fed), PV_ACCEPTED);
+    CHECK(fed.is_frame == 0 && fed.taken == 1 && fed.skipped == 0 && fed.frame_len == 0 && scanner.held_count == 1);
+    scanner.held_count = 1030;
+    CHECK_EQ(pv_scanner_feed(&scanner, NULL, 0, frame, sizeof frame, &fed), PV_STATE);
+    CHECK_EQ(scanner.held_count, 1030);
+    pv_scanner_reset(&scanner);
+    CHECK_EQ(scanner.held_count, 0);
+    memset(&scanner, 0xFF, sizeof scanner);
+    pv_scanner_init(&scanner);
+    CHECK(scanner.held_count == 0 && scanner.held[0] == 0 && scanner.held[1028] == 0);
+}
+
+static void feeding(void)
+{
+    feed_refusals();
+    taken_is_the_furthest_byte_seen();
+    an_empty_piece_can_hand_out_a_frame();
+    the_longest_frame();
+    the_longest_piece();
+    scanner_struct();
+}
+
+/* ---- 1059. ---- */
+
+static void read_1059_refusals(void)
+{
+    area_lend(&data, 1024, 0);
+    lend_1059(0);
+    REFUSED(pv_1059_read(DATA, 0, LISTS_1059, EXTRA), PV_SIZE, 0);
+    area_lend(&data, 1, 0);
+    lend_1059(2);
+    area_lend(&biases, 2, 0);
+    REFUSED(pv_1059_read(DATA, SIZE_MAX, LISTS_1059, EXTRA), PV_SIZE, 0);
+    area_lend(&biases, 4, 0);
+    area_lend(&signals, 1, 0);
+    REFUSED(pv_1059_read(DATA, 0, LISTS_1059, EXTRA), PV_SIZE, 0);
+    area_lend(&signals, 2, 0);
+    area_lend(&satellites, 3, 0);
+    REFUSED(pv_1059_read(DATA, 0, LISTS_1059, EXTRA), PV_SIZE, 0);
+    lend_1059(0);
+    ACCEPTED(pv_1059_read(DATA, 2, NULL, 0, NULL, 0, NULL, 0, EXTRA), 0, 8);
+    REFUSED(pv_1059_read(DATA, 3, LISTS_1059, EXTRA), PV_SHORT, 3);
+    REFUSED(pv_1059_read(DATA, SIZE_MAX, LISTS_1059, EXTRA), PV_SHORT, SIZE_MAX);
+    REFUSED(pv_1059_read(NULL, 0, 0, LISTS_1059, EXTRA), PV_SHORT, 0);
+}
+
+/* Cuts a block of two satellites with two biases each at every byte: the first field that does not fit is named. */
+static void read_1059_short_places(void)
+{
+    static const size_t starts[] = { 0, 6, 12, 17, 22, 36, 41, 55, 61, 66, 71, 85, 90 };
+    uint8_t block[13];
+    area_lend(&data, sizeof block, 0);
+    lend_1059(4);
+    for (size_t i = 0; i < 4; i++)
+        set_1059(i, i < 2 ? 3 : 60, 15, -1);
+    ACCEPTED(pv_1059_write(DATA, 0, LISTS_1059, EXTRA), 104);
+    memcpy(block, data.bytes, sizeof block);
+    for (size_t n = 0; n < sizeof block; n++) {
+        size_t place = 0;
+        for (size_t i = 0; i < sizeof starts / sizeof starts[0]; i++)
+            if (starts[i] <= n * 8)
+                place = starts[i];
+        lend_bytes(&data, block, n);
+        lend_1059(n % 2 ? 4 : 0);
+        REFUSED(pv_1059_read(DATA, 0, LISTS_1059, EXTRA), PV_SHORT, place);
+    }
+    lend_bytes(&data, block, sizeof block);
+    lend_1059(3);
+    REFUSED(pv_1059_read(DATA, 0, LISTS_1059, EXTRA), PV_ROOM, 4);
+    lend_1059(0);
+    REFUSED(pv_1059_read(DATA, 0, LISTS_1059, EXTRA), PV_ROOM, 4);
+}
+
+/* A reserved signal is kept as its number, its bias bits consumed; satellites may repeat and be empty. */
+static void read_1059_odd_blocks(void)
+{
+    area_lend(&data, 12, 0);
+    const struct { size_t width; uint64_t value; } fields_of[] = {
+        { 6, 3 }, { 6, 9 }, { 5, 1 }, { 5, 31 }, { 14, 0x2000 }, { 6, 9 }, { 5, 0 }, { 6, 1 }, { 5, 1 }, { 5, 3 }, { 14, 7 },
+    };
+    size_t place = 5;
+    for (size_t i = 0; i < sizeof fields_of / sizeof fields_of[0]; i++) {
+        ACCEPTED(pv_field_write_unsigned(DATA, place, fields_of[i].width, fields_of[i].value, EXTRA),
+                 place + fields_of[i].width);
+        place += fields_of[i].width;
+    }
+    lend_1059(3);
+    set_1059(2, 201, 202, 203);
+    ACCEPTED(pv_1059_read(DATA, 5, LISTS_1059, EXTRA), 2, place);
+    CHECK(satellites.bytes[0] == 9 && signals.bytes[0] == 31 && area_i16(&biases)[0] == -8192);
+    CHECK(satellites.bytes[1] == 1 && signals.bytes[1] == 3 && area_i16(&biases)[1] == 7);
+    CHECK(satellites.bytes[2] == 201 && signals.bytes[2] == 202 && area_i16(&biases)[2] == 203);
+}
+
+/* The most records that fit into 1,023 bytes: 14 satellites, 422 records. */
+static void most_records_1059(void)
+{
+    area_lend(&data, PV_DATA_MAX, 0);
+    lend_1059(PV_1059_READ_MAX);
+    for (size_t i = 0; i < PV_1059_READ_MAX; i++)
+        set_1059(i, (unsigned)(i / 31), 11, (int)i);
+    ACCEPTED(pv_1059_write(DATA, 0, LISTS_1059, EXTRA), 6 + 14 * 11 + 422 * 19);
+    area_lend(&data, PV_DATA_MAX, 0);
+    ACCEPTED(pv_1059_write(DATA, 6, LISTS_1059, EXTRA), 6 + 6 + 14 * 11 + 422 * 19);
+    ACCEPTED(pv_1059_read(DATA, 6, LISTS_1059, EXTRA), 422, 6 + 6 + 14 * 11 + 422 * 19);
+    CHECK(satellites.bytes[421] == 13 && area_i16(&biases)[421] == 421);
+    REFUSED(pv_1059_write(DATA, 7, LISTS_1059, EXTRA), PV_ROOM, 6 + 14 * 11 + 422 * 19);
+}
+
+static void write_1059_faults(void)
+{
+    area_lend(&data, 40, 0xFF);
+    lend_1059(3);
+    set_1059(0, 1, 1, 1);
+    set_1059(1, 64, 3, 8192);
+    set_1059(2, 64, 3, 8192);
+    REFUSED(pv_1059_write(DATA, SIZE_MAX, LISTS_1059, EXTRA), PV_SATELLITE, 1);
+    set_1059(1, 63, 3, 8192);
+    REFUSED(pv_1059_write(DATA, 0, LISTS_1059, EXTRA), PV_SIGNAL, 1);
+    set_1059(1, 63, 2, 8192);
+    REFUSED(pv_1059_write(DATA, 0, LISTS_1059, EXTRA), PV_RANGE, 1);
+    set_1059(1, 63, 2, -8193);
+    REFUSED(pv_1059_write(DATA, 0, LISTS_1059, EXTRA), PV_RANGE, 1);
+    set_1059(1, 63, 2, -8192);
+    REFUSED(pv_1059_write(DATA, 0, LISTS_1059, EXTRA), PV_SATELLITE, 2);
+    set_1059(2, 0, 255, 8191);
+    REFUSED(pv_1059_write(DATA, 0, LISTS_1059, EXTRA), PV_SIGNAL, 2);
+    for (unsigned signal = 0; signal < 256; signal++) {
+        set_1059(2, 0, signal, 8191);
+        if (signal < 16 && signal != 3 && signal != 4 && signal != 12 && signal != 13)
+            ACCEPTED(pv_1059_write(DATA, 0, LISTS_1059, EXTRA), 6 + 3 * 30);
+        else
+            REFUSED(pv_1059_write(DATA, 0, LISTS_1059, EXTRA), PV_SIGNAL, 2);
+    }
+}
+
+static void write_1059_size(void)
+{
+    area_lend(&data, 1024, 0xFF);
+    lend_1059(0);
+    REFUSED(pv_1059_write(DATA, 0, LISTS_1059, EXTRA), PV_SIZE, 0);
+    area_lend(&data, 1023, 0xFF);
+    lend_1059(1954);
+    memset(satellites.bytes, 64, 1954);
+    REFUSED(pv_1059_write(DATA, 0, LISTS_1059, EXTRA), PV_SIZE, 0);
+    lend_1059(1953);
+    memset(satellites.bytes, 64, 1953);
+    REFUSED(pv_1059_write(DATA, 0, LISTS_1059, EXTRA), PV_SATELLITE, 0);
+    area_lend(&satellites, 1952, 64);
+    REFUSED(pv_1059_write(DATA, 0, LISTS_1059, EXTRA), PV_SIZE, 0);
+    area_lend(&signals, 1952, 64);
+    REFUSED(pv_1059_write(DATA, 0, LISTS_1059, EXTRA), PV_SIZE, 0);
+}
+
+static void write_1059_too_many(void)
+{
+    area_lend(&data, 1023, 0xFF);
+    lend_1059(32 + 32);
+    for (size_t i = 0; i < 64; i++)
+        set_1059(i, i < 32 ? 40 : 7, 0, 0);
+    REFUSED(pv_1059_write(DATA, SIZE_MAX, LISTS_1059, EXTRA), PV_TOO_MANY, 7);
+    set_1059(63, 40, 0, 0);
+    REFUSED(pv_1059_write(DATA, 0, LISTS_1059, EXTRA), PV_TOO_MANY, 40);
+    set_1059(62, 0, 0, 0);
+    set_1059(63, 0, 0, 0);
+    set_1059(0, 0, 0, 0);
+    ACCEPTED(pv_1059_write(DATA, 0, LISTS_1059, EXTRA), 6 + 3 * 11 + 64 * 19);
+
+    lend_1059(64 + 31);
+    for (unsigned i = 0; i < 64 + 31; i++)
+        set_1059(i, i < 64 ? i : 63, 0, 0);
+    REFUSED(pv_1059_write(DATA, SIZE_MAX, LISTS_1059, EXTRA), PV_TOO_MANY, 63);
+    set_1059(94, 62, 0, 0);
+    REFUSED(pv_1059_write(DATA, SIZE_MAX, LISTS_1059, EXTRA), PV_TOO_MANY, 64);
+    set_1059(0, 1, 0, 0);
+    ACCEPTED(pv_1059_write(DATA, 0, LISTS_1059, EXTRA), 6 + 63 * 11 + 95 * 19);
+
+    /* 63 satellites with 31 biases each are not too many: they only do not fit. */
+    lend_1059(1953);
+    for (unsigned i = 0; i < 1953; i++)
+        set_1059(i, 1 + i % 63, 0, 0);
+    REFUSED(pv_1059_write(DATA, 0, LISTS_1059, EXTRA), PV_ROOM, 6 + 63 * 11 + 1953 * 19);
+}
+
+static void write_1059_room(void)
+{
+    lend_1059(0);
+    area_lend(&data, 1, 0xFF);
+    ACCEPTED(pv_1059_write(DATA, 2, LISTS_1059, EXTRA), 8);
+    HAS(data, 0xC0);
+    REFUSED(pv_1059_write(DATA, 3, LISTS_1059, EXTRA), PV_ROOM, 6);
+    REFUSED(pv_1059_write(DATA, SIZE_MAX, LISTS_1059, EXTRA), PV_ROOM, 6);
+    REFUSED(pv_1059_write(NULL, 0, 0, NULL, 0, NULL, 0, NULL, 0, EXTRA), PV_ROOM, 6);
+    lend_1059(1);
+    set_1059(0, 5, 0, 100);
+    area_lend(&data, 5, 0xFF);
+    REFUSED(pv_1059_write(DATA, 5, LISTS_1059, EXTRA), PV_ROOM, 36);
+    ACCEPTED(pv_1059_write(DATA, 4, LISTS_1059, EXTRA), 40);
+    CHECK(area_same(&satellites) && area_same(&signals) && area_same(&biases));
+    REFUSED(pv_1059_write(DATA, SIZE_MAX - 35, LISTS_1059, EXTRA), PV_ROOM, 36);
+}
+
+/* Satellites go out ascending, the records of one in list order, the same pair twice included. */
+static void write_1059_order(void)
+{
+    area_lend(&data, 30, 0);
+    lend_1059(4);
+    set_1059(0, 9, 2, 1);
+    set_1059(1, 4, 1, 2);
+    set_1059(2, 9, 2, 3);
+    set_1059(3, 9, 0, 4);
+    ACCEPTED(pv_1059_write(DATA, 11, LISTS_1059, EXTRA), 11 + 6 + 22 + 76);
+    ACCEPTED(pv_1059_read(DATA, 11, LISTS_1059, EXTRA), 4, 11 + 6 + 22 + 76);
+    CHECK(satellites.bytes[0] == 4 && satellites.bytes[1] == 9 && satellites.bytes[3] == 9);
+    CHECK(signals.bytes[0] == 1 && signals.bytes[1] == 2 && signals.bytes[2] == 2 && signals.bytes[3] == 0);
+    const int16_t *bias = area_i16(&biases);
+    CHECK(bias[0] == 2 && bias[1] == 1 && bias[2] == 3 && bias[3] == 4);
+}
+
+static void blocks_1059(void)
+{
+    read_1059_refusals();
+    read_1059_short_places();
+    read_1059_odd_blocks();
+    most_records_1059();
+    write_1059_size();
+    write_1059_faults();
+    write_1059_too_many();
+    write_1059_room();
+    write_1059_order();
+}
+
+/* ---- 1230. ---- */
+
+static void read_1230(void)
+{
+    area_lend(&data, 1024, 0);
+    lend_1230(4);
+    REFUSED(pv_1230_read(DATA, 0, LISTS_1230, EXTRA), PV_SIZE, 0);
+    area_lend(&data, 9, 0);
+    area_lend(&signals, 3, 0);
+    REFUSED(pv_1230_read(DATA, SIZE_MAX, LISTS_1230, EXTRA), PV_SIZE, 0);
+    lend_1230(0);
+    ACCEPTED(pv_1230_read(DATA, 68, NULL, 0, NULL, 0, EXTRA), 0, 72);
+    REFUSED(pv_1230_read(DATA, 69, LISTS_1230, EXTRA), PV_SHORT, 69);
+    REFUSED(pv_1230_read(DATA, SIZE_MAX, LISTS_1230, EXTRA), PV_SHORT, SIZE_MAX);
+    REFUSED(pv_1230_read(NULL, 0, 0, LISTS_1230, EXTRA), PV_SHORT, 0);
+    LEND(data, 0xF0, 0x01, 0x00, 0x02, 0x00, 0x03, 0x7F, 0xFF, 0xFF);
+    REFUSED(pv_1230_read(DATA, 0, LISTS_1230, EXTRA), PV_ROOM, 4);
+    lend_1230(3);
+    REFUSED(pv_1230_read(DATA, 0, LISTS_1230, EXTRA), PV_ROOM, 4);
+    for (size_t n = 1; n < 9; n++)
+        REFUSED(pv_1230_read(data.bytes, n, 0, LISTS_1230, EXTRA), PV_SHORT, 4 + (n * 8 - 4) / 16 * 16);
+    lend_1230(6);
+    set_1230(4, 77, 78);
+    ACCEPTED(pv_1230_read(DATA, 0, LISTS_1230, EXTRA), 4, 68);
+    CHECK(memcmp(signals.bytes, (const uint8_t[]){ 2, 3, 8, 9, 77 }, 5) == 0);
+    const int16_t *bias = area_i16(&biases);
+    CHECK(bias[0] == 0x10 && bias[1] == 0x20 && bias[2] == 0x37 && bias[3] == -1 && bias[4] == 78);
+}
+
+static void write_1230_refusals(void)
+{
+    area_lend(&data, 1024, 0xFF);
+    lend_1230(4);
+    REFUSED(pv_1230_write(DATA, 0, LISTS_1230, EXTRA), PV_SIZE, 0);
+    area_lend(&data, 9, 0xFF);
+    lend_1230(5);
+    REFUSED(pv_1230_write(DATA, 0, LISTS_1230, EXTRA), PV_SIZE, 0);
+    area_lend(&signals, 4, 0);
+    REFUSED(pv_1230_write(DATA, 0, LISTS_1230, EXTRA), PV_SIZE, 0);
+    lend_1230(4);
+    set_1230(0, 2, 0);
+    set_1230(1, 2, 0);
+    set_1230(2, 4, 0);
+    set_1230(3, 5, 0);
+    REFUSED(pv_1230_write(DATA, SIZE_MAX, LISTS_1230, EXTRA), PV_SIGNAL, 2);
+    set_1230(2, 9, 0);
+    set_1230(3, 9, 0);
+    REFUSED(pv_1230_write(DATA, SIZE_MAX, LISTS_1230, EXTRA), PV_DUPLICATE, 1);
+    set_1230(1, 3, 0);
+    REFUSED(pv_1230_write(DATA, SIZE_MAX, LISTS_1230, EXTRA), PV_DUPLICATE, 3);
+    set_1230(3, 8, 0);
+    REFUSED(pv_1230_write(DATA, 5, LISTS_1230, EXTRA), PV_ROOM, 68);
+    REFUSED(pv_1230_write(DATA, SIZE_MAX, LISTS_1230, EXTRA), PV_ROOM, 68);
+    ACCEPTED(pv_1230_write(DATA, 4, LISTS_1230, EXTRA), 72);
+    lend_1230(0);
+    REFUSED(pv_1230_write(NULL, 0, 0, NULL, 0, NULL, 0, EXTRA), PV_ROOM, 4);
+    REFUSED(pv_1230_write(DATA, 69, LISTS_1230, EXTRA), PV_ROOM, 4);
+    ACCEPTED(pv_1230_write(DATA, 68, LISTS_1230, EXTRA), 72);
+}
+
+/* Every set of signals, in falling order of the list: the mask order decides, and other bits stay. */
+static void write_1230_every_mask(void)
+{
+    static const uint8_t numbers[] = { 9, 8, 3, 2 };
+    for (unsigned mask = 0; mask < 16; mask++) {
+        size_t n = 0;
+        lend_1230(4);
+        for (unsigned i = 0; i < 4; i++)
+            if (mask >> i & 1)
+                set_1230(n++, numbers[i], -32768 + (int)i);
+        area_lend(&data, 10, 0xFF);
+        ACCEPTED(pv_1230_write(DATA, 3, signals.bytes, n, area_i16(&biases), n, EXTRA), 3 + 4 + 16 * n);
+        ACCEPTED(pv_field_read_unsigned(DATA, 0, 7, EXTRA), 0x70 | mask);
+        ACCEPTED(pv_field_read_unsigned(DATA, 7 + 16 * n, 8, EXTRA), 0xFF);
+        ACCEPTED(pv_1230_read(DATA, 3, LISTS_1230, EXTRA), n, 3 + 4 + 16 * n);
+        for (unsigned i = 0; i < 4; i++)
+            if (mask >> i & 1)
+                CHECK(signals.bytes[--n] == numbers[i] && area_i16(&biases)[n] == -32768 + (int)i);
+    }
+}
+
+/* ---- Metres. ---- */
+
+static uint32_t bits_of(float number)
+{
+    uint32_t bits;
+    memcpy(&bits, &number, sizeof bits);
+    return bits;
+}
+
+static void metres(void)
+{
+    for (int raw = INT16_MIN; raw <= INT16_MAX; raw++) {
+        CHECK_EQ(bits_of(pv_1059_metres((int16_t)raw)), bits_of((float)raw * 0.01f));
+        CHECK_EQ(bits_of(pv_1230_metres((int16_t)raw)), bits_of((float)raw * 0.02f));
+    }
+    CHECK_EQ(bits_of(pv_1059_metres(100)), 0x3F800000);
+    CHECK_EQ(bits_of(pv_1230_metres(-50)), 0xBF800000);
+    CHECK_EQ(bits_of(pv_1059_metres(0)), 0);
+}
+
+/* ---- Signal tables. ---- */
+
+/* Each table as text: number, band and letter, one after another. */
+static const char *const tables[] = {
+    "2 1C 3 1P 4 1W 8 2C 9 2P 10 2W 15 2S 16 2L 17 2X 22 5I 23 5Q 24 5X 30 1S 31 1L 32 1X",
+    "2 1C 3 1P 8 2C 9 2P",
+    "2 1C 3 1A 4 1B 5 1X 6 1Z 8 6C 9 6A 10 6B 11 6X 12 6Z 14 7I 15 7Q 16 7X 18 8I 19 8Q 20 8X 22 5I 23 5Q 24 5X",
+    "2 1C 22 5I 23 5Q 24 5X",
+    "2 1C 9 6S 10 6L 11 6X 15 2S 16 2L 17 2X 22 5I 23 5Q 24 5X 30 1S 31 1L 32 1X",
+    "2 2I 3 2Q 4 2X 8 6I 9 6Q 10 6X 14 7I 15 7Q 16 7X 22 5D 23 5P 24 5X 25 7D 30 1D 31 1P 32 1X",
+    "8 9A 22 5A",
+    "",
+};
+
+/* The place in the text behind the entry of a number, or null. */
+static const char *find_number(const char *table, unsigned number, unsigned *band, char *letter)
+{
+    unsigned entry;
+    int used;
+    while (sscanf(table, "%u %u%c%n", &entry, band, letter, &used) == 3) {
+        table += used;
+        if (entry == number)
+            return table;
+    }
+    return NULL;
+}
+
+static void numbers_to_signals(void)
+{
+    for (uint32_t system = 0; system < 8; system++) {
+        for (uint32_t number = 0; number < 300; number++) {
+            unsigned band = 0;
+            char letter = 0;
+            if (find_number(tables[system], number, &band, &letter) == NULL) {
+                ACCEPTED(pv_signal_of(system, number, EXTRA), 0);
+                continue;
+            }
+            ACCEPTED(pv_signal_of(system, number, EXTRA), 1, band, (uint8_t)letter);
+            ACCEPTED(pv_number_of(system, band, (uint8_t)letter, EXTRA), 1, number);
+            ACCEPTED(pv_number_of(system, band + 256, (uint8_t)letter, EXTRA), 0);
+            ACCEPTED(pv_number_of(system, band, (uint8_t)letter + 256u, EXTRA), 0);
+            ACCEPTED(pv_signal_of(system, number + 256, EXTRA), 0);
+            ACCEPTED(pv_signal_of(system + 256, number, EXTRA), 0);
+        }
+    }
+    ACCEPTED(pv_signal_of(UINT32_MAX, 2, EXTRA), 0);
+    ACCEPTED(pv_number_of(PV_GPS, 2, 'D', EXTRA), 0);
+    ACCEPTED(pv_number_of(UINT32_MAX, 1, 'C', EXTRA), 0);
+}
+
+static size_t entries_of(uint32_t system)
+{
+    size_t found = 0;
+    for (uint32_t band = 0; band < 16; band++) {
+        for (uint32_t letter = 0; letter < 128; letter++) {
+            CHECK_EQ(pv_number_of(system, band, letter, EXTRA), PV_ACCEPTED);
+            found += area_u64(&extra)[PV_AT_NUMBER_FOUND];
+        }
+    }
+    return found;
+}
+
+static void order_of_signals(void)
+{
+    ACCEPTED(pv_signal_order(PV_GPS, 1, 'C', 1, 'P', EXTRA), SIGNED(-1));
+    ACCEPTED(pv_signal_order(PV_GPS, 1, 'P', 1, 'C', EXTRA), 1);
+    ACCEPTED(pv_signal_order(PV_GPS, 1, 'S', 5, 'I', EXTRA), 1);
+    ACCEPTED(pv_signal_order(PV_GPS, 5, 'I', 1, 'S', EXTRA), SIGNED(-1));
+    ACCEPTED(pv_signal_order(PV_GPS, 1, 'X', 2, 'D', EXTRA), SIGNED(-1));
+    ACCEPTED(pv_signal_order(PV_GPS, 0, 0, 1, 'X', EXTRA), 1);
+    ACCEPTED(pv_signal_order(PV_GPS, 2, 'D', 2, 'E', EXTRA), SIGNED(-1));
+    ACCEPTED(pv_signal_order(PV_GPS, 3, 'A', 2, 'E', EXTRA), 1);
+    ACCEPTED(pv_signal_order(PV_GPS, 2, 'D', 2, 'D', EXTRA), 0);
+    ACCEPTED(pv_signal_order(PV_GPS, 1, 'C', 1, 'C', EXTRA), 0);
+    ACCEPTED(pv_signal_order(PV_GPS, 257, 'C', 1, 'C', EXTRA), 1);
+    ACCEPTED(pv_signal_order(PV_GPS, 257, 'C', 256, 'D', EXTRA), 1);
+    ACCEPTED(pv_signal_order(PV_GPS, 256, UINT32_MAX, UINT32_MAX, 0, EXTRA), SIGNED(-1));
+    ACCEPTED(pv_signal_order(PV_GPS, 7, 256, 7, 255, EXTRA), 1);
+    ACCEPTED(pv_signal_order(PV_BDS, 2, 'X', 1, 'D', EXTRA), SIGNED(-1));
+    ACCEPTED(pv_signal_order(7, 2, 'C', 1, 'P', EXTRA), 1);
+}
+
+static void signal_tables(void)
+{
+    static const size_t counts[] = { 15, 4, 19, 4, 13, 16, 2, 0 };
+    numbers_to_signals();
+    area_lend(&extra, 64, 0);
+    for (uint32_t system = 0; system < 8; system++)
+        CHECK_EQ(entries_of(system), counts[system]);
+    order_of_signals();
+}
+
+/* ---- The extra area of another size. ---- */
+
+static uint32_t call_number(unsigned call, uint64_t *numbers, size_t n)
+{
+    switch (call) {
+    case 0: return pv_field_read_unsigned(DATA, 0, 8, numbers, n);
+    case 1: return pv_field_read_twos(DATA, 0, 8, numbers, n);
+    case 2: return pv_field_read_signmag(DATA, 0, 8, numbers, n);
+    case 3: return pv_field_write_unsigned(DATA, 0, 8, 1, numbers, n);
+    case 4: return pv_field_write_twos(DATA, 0, 8, 1, numbers, n);
+    case 5: return pv_field_write_signmag(DATA, 0, 8, 1, numbers, n);
+    case 6: return pv_frame_check(DATA, numbers, n);
+    case 7: return pv_frame_write(DATA, OUT, numbers, n);
+    case 8: return pv_feed(held.bytes, held.size, 3, piece.bytes, piece.size, OUT, numbers, n);
+    case 9: return pv_1059_read(DATA, 0, LISTS_1059, numbers, n);
+    case 10: return pv_1059_write(DATA, 0, LISTS_1059, numbers, n);
+    case 11: return pv_1230_read(DATA, 0, LISTS_1230, numbers, n);
+    case 12: return pv_1230_write(DATA, 0, LISTS_1230, numbers, n);
+    case 13: return pv_signal_of(0, 2, numbers, n);
+    case 14: return pv_number_of(0, 1, 'C', numbers, n);
+    default: return pv_signal_order(0, 1, 'C', 1, 'P', numbers, n);
+    }
+}
+
+/* Areas on which every call above is accepted or refused for itself, so that only the size of extra differs. */
+static void extra_of_another_size(void)
+{
+    static const size_t sizes[] = { 0, 1, 7, 9, 16, 4096 };
+    area_lend(&data, 40, 0);
+    area_lend(&out, 2000, 0x12);
+    area_lend(&held, PV_HELD_SIZE, 0);
+    LEND(piece, 0xD3, 0, 0, 0x47, 0xEA, 0x4B);
+    lend_1059(1);
+    signals.bytes[0] = 2;
+    for (unsigned call = 0; call < 16; call++) {
+        for (size_t i = 0; i < sizeof sizes / sizeof sizes[0]; i++) {
+            ready();
+            area_lend(&extra, sizes[i] * 8, 0xEE);
+            CHECK_EQ(call_number(call, area_u64(&extra), sizes[i]), PV_SIZE);
+            nothing_written("extra of another size", __LINE__);
+            CHECK(area_same(&extra));
+        }
+        CHECK_EQ(call_number(call, NULL, 0), PV_SIZE);
+        nothing_written("no extra", __LINE__);
+    }
+    /* The same calls with the right size write all of it. */
+    for (unsigned call = 0; call < 16; call++) {
+        ready();
+        uint32_t got = call_number(call, EXTRA);
+        CHECK(got == PV_ACCEPTED || got == PV_NOT_VALID);
+        for (size_t i = 0; i < PV_EXTRA_SIZE; i++)
+            CHECK(area_u64(&extra)[i] != UINT64_C(0xEEEEEEEEEEEEEEEE));
+    }
+}
+
+static void refusal_names(void)
+{
+    CHECK(strcmp(pv_refusal_name(PV_ACCEPTED), "Accepted") == 0);
+    CHECK(strcmp(pv_refusal_name(PV_SHORT), "Short") == 0);
+    CHECK(strcmp(pv_refusal_name(PV_TOO_MANY), "TooMany") == 0);
+    CHECK(strcmp(pv_refusal_name(PV_SIZE), "Size") == 0);
+    CHECK(strcmp(pv_refusal_name(PV_INCOMPLETE), "Incomplete") == 0);
+    CHECK(strcmp(pv_refusal_name(13), "Unknown") == 0);
+    CHECK(strcmp(pv_refusal_name(UINT32_MAX), "Unknown") == 0);
+}
+
+int main(void)
+{
+    data = area_new(70000);
+    out = area_new(4000);
+    held = area_new(4000);
+    piece = area_new(70000);
+    satellites = area_new(4000);
+    signals = area_new(4000);
+    biases = area_new(8000);
+    extra = area_new(40000);
+    for (size_t i = 0; i < sizeof lent / sizeof lent[0]; i++)
+        area_lend(lent[i], 0, 0);
+
+    example_1_to_3();
+    example_4_and_5();
+    example_6_and_7();
+    example_8_and_9();
+    published_checksums();
+    fields();
+    frames();
+    feeding();
+    blocks_1059();
+    read_1230();
+    write_1230_refusals();
+    write_1230_every_mask();
+    metres();
+    signal_tables();
+    extra_of_another_size();
+    refusal_names();
+    return checks_result("calls");
+}

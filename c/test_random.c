@@ -1,0 +1,565 @@
+/*
+ * A bounded random run of every function against the plain reference: the same call on two sets of areas must give the
+ * same return value, the same areas and the same extra. The seed is fixed, so every run makes the same calls.
+ *
+ * Usage: test_random [ROUNDS]
+ */
+#include "test.h"
+
+#include "reference.h"
+
+/* ---- Random numbers. ---- */
+
+static uint64_t state = 0x9E3779B97F4A7C15;
+
+static uint64_t random64(void)
+{
+    state ^= state << 13;
+    state ^= state >> 7;
+    state ^= state << 17;
+    return state * 0x2545F4914F6CDD1D;
+}
+
+/* A number from 0 to limit - 1. */
+static size_t below(size_t limit)
+{
+    return (size_t)(random64() >> 11) % limit;
+}
+
+static int one_in(size_t n)
+{
+    return below(n) == 0;
+}
+
+static uint64_t pick_of(const uint64_t *from, size_t n)
+{
+    return from[below(n)];
+}
+
+#define PICK(...) pick_of((const uint64_t[]){ __VA_ARGS__ }, sizeof((const uint64_t[]){ __VA_ARGS__ }) / 8)
+
+/* ---- Areas in pairs: one for the library, one for the reference. ---- */
+
+struct pair {
+    struct area ours, theirs;
+};
+
+static struct pair data, out, held, piece, satellites, signals, biases, extra;
+static struct pair *const pairs[] = { &data, &out, &held, &piece, &satellites, &signals, &biases, &extra };
+
+static unsigned long calls_made;
+
+static void lend(struct pair *pair, size_t size)
+{
+    area_lend(&pair->ours, size, 0);
+    area_lend(&pair->theirs, size, 0);
+}
+
+static void fill(struct pair *pair, const uint8_t *bytes)
+{
+    if (pair->ours.size == 0)
+        return;
+    memcpy(pair->ours.bytes, bytes, pair->ours.size);
+    memcpy(pair->theirs.bytes, bytes, pair->ours.size);
+}
+
+static void fill_random(struct pair *pair)
+{
+    for (size_t i = 0; i < pair->ours.size; i++)
+        pair->ours.bytes[i] = pair->theirs.bytes[i] = (uint8_t)random64();
+}
+
+static void lend_random(struct pair *pair, size_t size)
+{
+    lend(pair, size);
+    fill_random(pair);
+}
+
+static void set_byte(struct pair *pair, size_t i, uint64_t byte)
+{
+    pair->ours.bytes[i] = pair->theirs.bytes[i] = (uint8_t)byte;
+}
+
+static void set_bias(size_t i, int64_t bias)
+{
+    area_i16(&biases.ours)[i] = area_i16(&biases.theirs)[i] = (int16_t)bias;
+}
+
+/* An extra area full of rubbish; once in a while of another size. */
+static void lend_extra(void)
+{
+    lend_random(&extra, 8 * (one_in(200) ? below(20) : PV_EXTRA_SIZE));
+}
+
+static int same(const struct pair *pair)
+{
+    if (pair->ours.size > 0 && memcmp(pair->ours.bytes, pair->theirs.bytes, pair->ours.size) != 0)
+        return 0;
+    return area_guard_same(&pair->ours) && area_guard_same(&pair->theirs);
+}
+
+static void compare(const char *name, uint32_t ours, uint32_t theirs)
+{
+    calls_made++;
+    check_equal(ours, theirs, name, __FILE__, __LINE__);
+    for (size_t i = 0; i < sizeof pairs / sizeof pairs[0]; i++)
+        check_equal(!same(pairs[i]), 0, name, __FILE__, __LINE__);
+}
+
+#define OURS(pair) (pair).ours.bytes, (pair).ours.size
+#define THEIRS(pair) (pair).theirs.bytes, (pair).theirs.size
+#define OUR_EXTRA area_u64(&extra.ours), extra.ours.size / 8
+#define THEIR_EXTRA area_u64(&extra.theirs), extra.theirs.size / 8
+#define OUR_BIASES area_i16(&biases.ours), biases.ours.size / 2
+#define THEIR_BIASES area_i16(&biases.theirs), biases.theirs.size / 2
+
+/* ---- Checksum and fields. ---- */
+
+static size_t random_length(void)
+{
+    if (one_in(4))
+        return below(1200);
+    if (one_in(20))
+        return PICK(1022, 1023, 1024, 1025, 1029, 3000);
+    return below(24);
+}
+
+static void try_crc(void)
+{
+    lend_random(&data, random_length());
+    compare("pv_crc24q", pv_crc24q(OURS(data)), ref_crc24q(THEIRS(data)));
+}
+
+static size_t random_width(void)
+{
+    return one_in(12) ? PICK(0, 65, 66, 128, 256, SIZE_MAX, SIZE_MAX - 63, (size_t)1 << 32) : 1 + below(64);
+}
+
+/* A start that is mostly in the data, often near its end, and sometimes far away. */
+static size_t random_start(size_t data_len, size_t width)
+{
+    size_t bits = data_len * 8;
+    if (one_in(10))
+        return PICK(SIZE_MAX, SIZE_MAX - 1, SIZE_MAX - 63, SIZE_MAX - 64, SIZE_MAX / 2 + 1, SIZE_MAX / 8, SIZE_MAX / 8 + 1, 65535);
+    if (one_in(3) && bits >= width)
+        return bits - width + below(3) - (bits > width && one_in(2));
+    return below(bits + 9);
+}
+
+static void try_field_read(void)
+{
+    size_t width = random_width();
+    lend_random(&data, random_length());
+    lend_extra();
+    size_t start = random_start(data.ours.size, width);
+    switch (below(3)) {
+    case 0:
+        compare("pv_field_read_unsigned", pv_field_read_unsigned(OURS(data), start, width, OUR_EXTRA),
+                ref_field_read_unsigned(THEIRS(data), start, width, THEIR_EXTRA));
+        break;
+    case 1:
+        compare("pv_field_read_twos", pv_field_read_twos(OURS(data), start, width, OUR_EXTRA),
+                ref_field_read_twos(THEIRS(data), start, width, THEIR_EXTRA));
+        break;
+    default:
+        compare("pv_field_read_signmag", pv_field_read_signmag(OURS(data), start, width, OUR_EXTRA),
+                ref_field_read_signmag(THEIRS(data), start, width, THEIR_EXTRA));
+    }
+}
+
+/* A number near the ends of the ranges of a width, or anywhere. */
+static uint64_t random_value(size_t width)
+{
+    uint64_t power = width >= 1 && width <= 63 ? (uint64_t)1 << width : 0;
+    uint64_t value = random64();
+    if (one_in(3))
+        value = PICK(power, power / 2, 0 - power / 2, 0, (uint64_t)1 << 63) + below(3) - 1;
+    else if (one_in(6) || power == 0)
+        return value;
+    else
+        value &= power - 1;
+    return one_in(2) ? value : 0 - value;
+}
+
+static void try_field_write(void)
+{
+    size_t width = random_width();
+    uint64_t value = random_value(width);
+    lend_random(&data, random_length());
+    lend_extra();
+    size_t start = random_start(data.ours.size, width);
+    switch (below(3)) {
+    case 0:
+        compare("pv_field_write_unsigned", pv_field_write_unsigned(OURS(data), start, width, value, OUR_EXTRA),
+                ref_field_write_unsigned(THEIRS(data), start, width, value, THEIR_EXTRA));
+        break;
+    case 1:
+        compare("pv_field_write_twos", pv_field_write_twos(OURS(data), start, width, (int64_t)value, OUR_EXTRA),
+                ref_field_write_twos(THEIRS(data), start, width, (int64_t)value, THEIR_EXTRA));
+        break;
+    default:
+        compare("pv_field_write_signmag", pv_field_write_signmag(OURS(data), start, width, (int64_t)value, OUR_EXTRA),
+                ref_field_write_signmag(THEIRS(data), start, width, (int64_t)value, THEIR_EXTRA));
+    }
+}
+
+/* ---- Frames. ---- */
+
+static size_t random_data_length(void)
+{
+    if (one_in(8))
+        return PICK(0, 1, 2, 3, 1021, 1022, 1023);
+    return one_in(6) ? below(1024) : below(60);
+}
+
+/* Puts a good frame of random data at `to`, its reserved bits random once in a while; gives its length. */
+static size_t put_frame(uint8_t *to, size_t n)
+{
+    to[0] = 0xD3;
+    to[1] = (uint8_t)((one_in(4) ? below(64) << 2 : 0) | n >> 8);
+    to[2] = (uint8_t)n;
+    for (size_t i = 0; i < n; i++)
+        to[3 + i] = (uint8_t)(one_in(40) ? 0xD3 : random64());
+    uint32_t sum = ref_crc24q(to, n + 3);
+    to[n + 3] = (uint8_t)(sum >> 16);
+    to[n + 4] = (uint8_t)(sum >> 8);
+    to[n + 5] = (uint8_t)sum;
+    return n + 6;
+}
+
+static void damage(uint8_t *bytes, size_t n)
+{
+    bytes[below(n)] ^= (uint8_t)(1 << below(8));
+}
+
+static void try_frame_check(void)
+{
+    uint8_t frame[PV_FRAME_MAX + 8];
+    size_t n = put_frame(frame, random_data_length());
+    if (one_in(3))
+        damage(frame, n);
+    size_t behind = one_in(2) ? below(8) : 0;
+    for (size_t i = 0; i < behind; i++)
+        frame[n + i] = (uint8_t)random64();
+    n += behind;
+    if (one_in(4))
+        n = one_in(2) ? below(n + 1) : n - below(n < 9 ? n : 9);
+    lend(&data, n);
+    fill(&data, frame);
+    lend_extra();
+    compare("pv_frame_check", pv_frame_check(OURS(data), OUR_EXTRA), ref_frame_check(THEIRS(data), THEIR_EXTRA));
+}
+
+static void try_frame_write(void)
+{
+    lend_random(&data, one_in(30) ? PICK(1023, 1024, 1025) : random_data_length());
+    size_t room = data.ours.size + 6;
+    lend_random(&out, one_in(3) ? below(room + 1) : room - 1 + below(4));
+    lend_extra();
+    compare("pv_frame_write", pv_frame_write(OURS(data), OURS(out), OUR_EXTRA),
+            ref_frame_write(THEIRS(data), THEIRS(out), THEIR_EXTRA));
+}
+
+/* ---- Feeding. ---- */
+
+#define STREAM_MAX 12000
+
+static uint8_t stream[STREAM_MAX];
+
+/* One part of a stream: a good frame, a damaged or a cut one, noise, a run of D3, or a false start. */
+static size_t put_part(uint8_t *to)
+{
+    size_t n;
+    switch (below(8)) {
+    case 0:
+        n = put_frame(to, random_data_length());
+        damage(to, n);
+        return n;
+    case 1:
+        return below(put_frame(to, random_data_length()));
+    case 2:
+        n = below(80);
+        for (size_t i = 0; i < n; i++)
+            to[i] = (uint8_t)random64();
+        return n;
+    case 3:
+        n = one_in(20) ? below(1100) : below(12);
+        memset(to, 0xD3, n);
+        return n;
+    case 4:
+        to[0] = 0xD3;
+        to[1] = (uint8_t)(one_in(2) ? 0 : below(256));
+        to[2] = (uint8_t)random64();
+        return 3;
+    default:
+        return put_frame(to, random_data_length());
+    }
+}
+
+static size_t random_stream(void)
+{
+    size_t n = 0;
+    size_t limit = one_in(4) ? 8000 : 1500;
+    while (n < limit)
+        n += put_part(stream + n);
+    return n;
+}
+
+/* What came out of a stream: kept as a checksum of the frames in order, and counts. */
+struct outcome {
+    uint64_t frames, frame_bytes, sum, skipped, held;
+};
+
+static void add_frame(struct outcome *outcome, const uint8_t *frame, size_t n)
+{
+    outcome->frames++;
+    outcome->frame_bytes += n;
+    for (size_t i = 0; i < n; i++)
+        outcome->sum = (outcome->sum ^ frame[i]) * 0x100000001B3;
+}
+
+static struct outcome whole_stream_scan(size_t n)
+{
+    struct outcome outcome = { 0, 0, 0, 0, 0 };
+    size_t place = 0;
+    for (;;) {
+        size_t frame_len = 1;
+        enum ref_fate fate = ref_scan(stream, n, place, &frame_len);
+        if (fate == REF_HELD)
+            break;
+        if (fate == REF_FRAME)
+            add_frame(&outcome, stream + place, frame_len);
+        else
+            outcome.skipped++;
+        place += frame_len;
+    }
+    outcome.held = n - place;
+    return outcome;
+}
+
+static uint32_t feed_both(size_t held_count)
+{
+    lend_extra();
+    uint32_t got = pv_feed(OURS(held), held_count, OURS(piece), OURS(out), OUR_EXTRA);
+    compare("pv_feed", got, ref_feed(THEIRS(held), held_count, THEIRS(piece), THEIRS(out), THEIR_EXTRA));
+    return extra.ours.size == 8 * PV_EXTRA_SIZE ? got : PV_SIZE;
+}
+
+static void try_feed_refusals(size_t held_count)
+{
+    size_t held_len = one_in(4) ? PICK(0, 1, 1028, 1030) : PV_HELD_SIZE;
+    lend_random(&held, held_len);
+    lend_random(&out, one_in(3) ? PICK(0, 1, 1028) : PV_FRAME_MAX);
+    lend(&piece, one_in(8) ? PICK(65536, 65537, 65600) : below(9));
+    if (one_in(2))
+        held_count = PICK(1030, 1031, SIZE_MAX, (size_t)1 << 32);
+    feed_both(held_count);
+}
+
+/* Held bytes that no run of the scanner would leave: any bytes, any count. */
+static void try_strange_held(void)
+{
+    size_t n = random_stream();
+    size_t held_count = one_in(4) ? PICK(0, 1, 5, 6, 1028, 1029) : below(1030);
+    lend(&held, PV_HELD_SIZE);
+    fill(&held, stream + below(n - PV_HELD_SIZE));
+    lend(&piece, one_in(2) ? below(40) : below(n));
+    fill(&piece, stream);
+    lend_random(&out, PV_FRAME_MAX + below(5));
+    feed_both(held_count);
+}
+
+static size_t piece_length(size_t kind)
+{
+    return kind == 0 ? 1 : kind == 1 ? 1 + below(10) : kind == 2 ? below(200) : kind == 3 ? 1460 : STREAM_MAX;
+}
+
+/* Feeds a whole stream in pieces of one kind, each until More, and holds the outcome to the scan of the whole stream. */
+static void try_stream(void)
+{
+    struct outcome outcome = { 0, 0, 0, 0, 0 };
+    size_t n = random_stream();
+    size_t kind = below(5);
+    size_t place = 0;
+    size_t held_count = 0;
+    lend_random(&held, PV_HELD_SIZE);
+    lend_random(&out, PV_FRAME_MAX);
+    while (place < n) {
+        size_t want = piece_length(kind);
+        size_t end = want < n - place ? place + want : n;
+        const uint64_t *numbers;
+        do {
+            lend(&piece, end - place);
+            fill(&piece, stream + place);
+            if (feed_both(held_count) != PV_ACCEPTED) {
+                numbers = NULL;
+                continue;
+            }
+            numbers = area_u64(&extra.ours);
+            held_count = numbers[PV_AT_FED_HELD_COUNT];
+            place += numbers[PV_AT_FED_TAKEN];
+            outcome.skipped += numbers[PV_AT_FED_SKIPPED];
+            if (numbers[PV_AT_FED_IS_FRAME] == PV_FRAME)
+                add_frame(&outcome, out.ours.bytes, numbers[PV_AT_FED_FRAME_LENGTH]);
+        } while (numbers == NULL || numbers[PV_AT_FED_IS_FRAME] == PV_FRAME);
+        CHECK_EQ(outcome.frame_bytes + outcome.skipped + held_count, place);
+    }
+    outcome.held = held_count;
+    struct outcome expected = whole_stream_scan(n);
+    CHECK(memcmp(&outcome, &expected, sizeof outcome) == 0);
+}
+
+static void try_feed(void)
+{
+    if (one_in(3))
+        try_feed_refusals(below(1030));
+    else if (one_in(3))
+        try_strange_held();
+    else if (one_in(8))
+        try_stream();
+}
+
+/* ---- Bias blocks. ---- */
+
+static void lend_lists(size_t n, int with_satellites)
+{
+    int odd = one_in(40);
+    if (with_satellites)
+        lend_random(&satellites, odd ? below(n + 3) : n);
+    lend_random(&signals, odd ? below(n + 3) : n);
+    lend_random(&biases, 2 * (odd ? below(n + 3) : n));
+}
+
+/* Puts a number into a field of both data areas, where it fits. */
+static void put_number(size_t start, size_t width, uint64_t number)
+{
+    uint64_t numbers[PV_EXTRA_SIZE];
+    ref_field_write_unsigned(OURS(data), start, width, number, numbers, PV_EXTRA_SIZE);
+    ref_field_write_unsigned(THEIRS(data), start, width, number, numbers, PV_EXTRA_SIZE);
+}
+
+/* Puts small counts into the block, so that it often fits: random bits alone seldom do. */
+static void tame_1059(size_t start)
+{
+    size_t satellite_count = below(one_in(4) ? 30 : 4);
+    size_t place = start + 6;
+    put_number(start, 6, satellite_count);
+    for (size_t i = 0; i < satellite_count && place < data.ours.size * 8; i++) {
+        size_t count = below(one_in(3) ? 32 : 4);
+        put_number(place + 6, 5, count);
+        place += 11 + 19 * count;
+    }
+}
+
+static void try_1059_read(void)
+{
+    lend_random(&data, one_in(30) ? PICK(1023, 1024) : one_in(2) ? below(1024) : below(60));
+    size_t start = random_start(data.ours.size, 6);
+    if (one_in(2))
+        start = below(20);
+    if (!one_in(3) && start < 9000)
+        tame_1059(start);
+    lend_lists(one_in(2) ? 422 : below(60), 1);
+    lend_extra();
+    compare("pv_1059_read",
+            pv_1059_read(OURS(data), start, OURS(satellites), OURS(signals), OUR_BIASES, OUR_EXTRA),
+            ref_1059_read(THEIRS(data), start, THEIRS(satellites), THEIRS(signals), THEIR_BIASES, THEIR_EXTRA));
+}
+
+/* Records that are mostly legal, over a few or over all satellites. */
+static void random_records(void)
+{
+    static const uint8_t known[] = { 0, 1, 2, 5, 6, 7, 8, 9, 10, 11, 14, 15 };
+    size_t spread = PICK(1, 2, 5, 20, 63, 64);
+    int faulty = one_in(6);
+    for (size_t i = 0; i < satellites.ours.size; i++)
+        set_byte(&satellites, i, faulty && one_in(20) ? below(256) : below(spread));
+    for (size_t i = 0; i < signals.ours.size; i++)
+        set_byte(&signals, i, faulty && one_in(20) ? below(40) : known[below(sizeof known)]);
+    for (size_t i = 0; i < biases.ours.size / 2; i++)
+        set_bias(i, (int64_t)below(16384) - 8192 + (faulty && one_in(20) ? 8192 : 0));
+}
+
+static void try_1059_write(void)
+{
+    lend_random(&data, one_in(60) ? PICK(1024, 1030) : one_in(2) ? below(1024) : PV_DATA_MAX);
+    size_t n = one_in(60) ? PICK(1952, 1953, 1954, 2000) : one_in(3) ? below(450) : below(40);
+    lend_lists(n, 1);
+    random_records();
+    size_t start = one_in(2) ? below(20) : random_start(data.ours.size, 6 + 30 * n);
+    lend_extra();
+    compare("pv_1059_write",
+            pv_1059_write(OURS(data), start, OURS(satellites), OURS(signals), OUR_BIASES, OUR_EXTRA),
+            ref_1059_write(THEIRS(data), start, THEIRS(satellites), THEIRS(signals), THEIR_BIASES, THEIR_EXTRA));
+}
+
+static void try_1230_read(void)
+{
+    lend_random(&data, one_in(30) ? PICK(1023, 1024) : below(16));
+    size_t start = random_start(data.ours.size, one_in(2) ? 4 : 36);
+    lend_lists(below(7), 0);
+    lend_extra();
+    compare("pv_1230_read", pv_1230_read(OURS(data), start, OURS(signals), OUR_BIASES, OUR_EXTRA),
+            ref_1230_read(THEIRS(data), start, THEIRS(signals), THEIR_BIASES, THEIR_EXTRA));
+}
+
+static void try_1230_write(void)
+{
+    static const uint8_t known[] = { 2, 3, 8, 9 };
+    lend_random(&data, one_in(30) ? PICK(1023, 1024) : below(16));
+    lend_lists(below(6), 0);
+    for (size_t i = 0; i < signals.ours.size; i++)
+        set_byte(&signals, i, one_in(12) ? below(12) : known[below(4)]);
+    size_t start = random_start(data.ours.size, 4 + 16 * signals.ours.size);
+    lend_extra();
+    compare("pv_1230_write", pv_1230_write(OURS(data), start, OURS(signals), OUR_BIASES, OUR_EXTRA),
+            ref_1230_write(THEIRS(data), start, THEIRS(signals), THEIR_BIASES, THEIR_EXTRA));
+}
+
+/* ---- Signal tables. ---- */
+
+static uint32_t random_band(void)
+{
+    return (uint32_t)(one_in(20) ? random64() : below(10));
+}
+
+static uint32_t random_letter(void)
+{
+    return (uint32_t)(one_in(20) ? random64() : 'A' + below(26));
+}
+
+static void try_signals(void)
+{
+    uint32_t system = (uint32_t)(one_in(30) ? random64() : below(8));
+    uint32_t number = (uint32_t)(one_in(30) ? random64() : below(40));
+    uint32_t band_a = random_band(), letter_a = random_letter(), band_b = random_band(), letter_b = random_letter();
+    lend_extra();
+    compare("pv_signal_of", pv_signal_of(system, number, OUR_EXTRA), ref_signal_of(system, number, THEIR_EXTRA));
+    lend_extra();
+    compare("pv_number_of", pv_number_of(system, band_a, letter_a, OUR_EXTRA),
+            ref_number_of(system, band_a, letter_a, THEIR_EXTRA));
+    lend_extra();
+    compare("pv_signal_order", pv_signal_order(system, band_a, letter_a, band_b, letter_b, OUR_EXTRA),
+            ref_signal_order(system, band_a, letter_a, band_b, letter_b, THEIR_EXTRA));
+}
+
+/* ---- The run. ---- */
+
+static void (*const tries[])(void) = {
+    try_crc, try_field_read, try_field_read, try_field_write, try_field_write, try_frame_check, try_frame_write,
+    try_feed, try_1059_read, try_1059_write, try_1230_read, try_1230_write, try_signals,
+};
+
+int main(int argc, char **argv)
+{
+    unsigned long rounds = argc > 1 ? strtoul(argv[1], NULL, 10) : 200000;
+    for (size_t i = 0; i < sizeof pairs / sizeof pairs[0]; i++) {
+        pairs[i]->ours = area_new(70000);
+        pairs[i]->theirs = area_new(70000);
+        lend(pairs[i], 0);
+    }
+    for (unsigned long i = 0; i < rounds; i++)
+        tries[below(sizeof tries / sizeof tries[0])]();
+    printf("random: %lu calls against the reference\n", calls_made);
+    return checks_result("random");
+}

@@ -1,0 +1,194 @@
+/*
+ * Real recordings, scanned in pieces of 1, 7, 1,460 and 65,536 bytes: the counts are known, whatever the cut. The bias
+ * blocks in them are read and held to what another program decoded.
+ *
+ * Usage: test_recordings FILE..   where a FILE is known by its last name
+ */
+#include "test.h"
+
+#include "reference.h"
+
+struct recording {
+    const char *name;
+    size_t bytes, frames, skipped, held;
+};
+
+static const struct recording recordings[] = {
+    { "rtcm3-1.bin", 36723, 67, 708, 0 },
+    { "rtcm3-3.bin", 26348, 200, 56, 0 },
+    { "rtcm3.bndm.bin", 11400, 100, 34, 0 },
+    { "rtcm3.bin", 72, 2, 2, 0 },
+    { "ublox-f9p-rtcm.bin", 5737, 15, 3949, 0 },
+    { "testglo.rtcm3", 57931, 429, 58, 0 },
+};
+
+/* The bias blocks of message 1059 in rtcm3-1.bin start here: its header is that of an old draft. */
+#define BLOCK_1059_START 42
+#define BLOCK_1230_START 28
+
+static uint8_t stream[65536];
+static size_t stream_len;
+
+static int read_file(const char *path)
+{
+    FILE *file = fopen(path, "rb");
+    if (file == NULL)
+        return -1;
+    stream_len = fread(stream, 1, sizeof stream, file);
+    int more = fgetc(file) != EOF;
+    fclose(file);
+    return more ? -1 : 0;
+}
+
+static const char *last_name(const char *path)
+{
+    const char *slash = strrchr(path, '/');
+    return slash == NULL ? path : slash + 1;
+}
+
+/* Called for each frame, with its place in the stream. */
+typedef void frame_visitor(const uint8_t *frame, size_t place);
+
+static struct recording scan_in_pieces(size_t piece_len, frame_visitor *visit)
+{
+    struct recording found = { "", 0, 0, 0, 0 };
+    struct pv_scanner scanner = PV_SCANNER_FRESH;
+    struct pv_fed fed = { 0, 0, 0, 0 };
+    uint8_t frame[PV_FRAME_MAX] = { 0 };
+    size_t given_out = 0;
+    while (found.bytes < stream_len) {
+        size_t end = stream_len - found.bytes < piece_len ? stream_len : found.bytes + piece_len;
+        do {
+            CHECK_EQ(pv_scanner_feed(&scanner, stream + found.bytes, end - found.bytes, frame, sizeof frame, &fed), 0);
+            found.bytes += fed.taken;
+            found.skipped += fed.skipped;
+            if (fed.is_frame && visit != NULL)
+                visit(frame, given_out + found.skipped);
+            found.frames += (size_t)fed.is_frame;
+            given_out += fed.frame_len;
+        } while (fed.is_frame);
+    }
+    found.held = scanner.held_count;
+    return found;
+}
+
+/* ---- Bias blocks. ---- */
+
+static FILE *decoded; /* Place of the frame, satellite, signal, raw bias of each 1059 record; or null. */
+static size_t records_1059, messages_1230, biases_1230;
+
+static uint64_t number_of(const uint8_t *frame, size_t *data_len)
+{
+    uint64_t extra[PV_EXTRA_SIZE];
+    CHECK_EQ(pv_frame_check(frame, PV_FRAME_MAX, extra, PV_EXTRA_SIZE), PV_ACCEPTED);
+    *data_len = extra[PV_AT_FRAME_DATA_LENGTH];
+    return extra[PV_AT_FRAME_NUMBER];
+}
+
+static void hold_to_decoded(size_t place, unsigned satellite, unsigned signal, int bias)
+{
+    size_t place_there = 0;
+    unsigned satellite_there = 0, signal_there = 0;
+    int bias_there = 0;
+    CHECK_EQ(fscanf(decoded, "%zu %u %u %d", &place_there, &satellite_there, &signal_there, &bias_there), 4);
+    CHECK_EQ(place, place_there);
+    CHECK_EQ(satellite, satellite_there);
+    CHECK_EQ(signal, signal_there);
+    CHECK_EQ(bias, bias_there);
+}
+
+/* Reads the block, holds it to what is known, and writes it back to the same bits. */
+static void visit_1059(const uint8_t *frame, size_t data_len, size_t place)
+{
+    uint8_t satellites[PV_1059_READ_MAX], signals[PV_1059_READ_MAX], copy[PV_DATA_MAX];
+    int16_t biases[PV_1059_READ_MAX];
+    uint64_t extra[PV_EXTRA_SIZE];
+    CHECK_EQ(pv_1059_read(frame + 3, data_len, BLOCK_1059_START, satellites, PV_1059_READ_MAX, signals, PV_1059_READ_MAX,
+                          biases, PV_1059_READ_MAX, extra, PV_EXTRA_SIZE), PV_ACCEPTED);
+    size_t n = extra[PV_AT_READ_RECORDS];
+    uint64_t end = extra[PV_AT_READ_END];
+    for (size_t i = 0; i < n; i++)
+        hold_to_decoded(place, satellites[i], signals[i], biases[i]);
+    records_1059 += n;
+    memcpy(copy, frame + 3, data_len);
+    for (uint64_t bit = BLOCK_1059_START; bit < end; bit++)
+        copy[bit / 8] ^= (uint8_t)(0x80 >> bit % 8);
+    CHECK_EQ(pv_1059_write(copy, data_len, BLOCK_1059_START, satellites, n, signals, n, biases, n, extra, PV_EXTRA_SIZE),
+             PV_ACCEPTED);
+    CHECK_EQ(extra[PV_AT_WRITTEN_END], end);
+    CHECK(memcmp(copy, frame + 3, data_len) == 0);
+}
+
+static void visit_1230(const uint8_t *frame, size_t data_len)
+{
+    uint8_t signals[PV_1230_MAX], copy[PV_DATA_MAX];
+    int16_t biases[PV_1230_MAX];
+    uint64_t extra[PV_EXTRA_SIZE];
+    CHECK_EQ(pv_1230_read(frame + 3, data_len, BLOCK_1230_START, signals, PV_1230_MAX, biases, PV_1230_MAX, extra,
+                          PV_EXTRA_SIZE), PV_ACCEPTED);
+    size_t n = extra[PV_AT_READ_RECORDS];
+    messages_1230++;
+    biases_1230 += n;
+    memcpy(copy, frame + 3, data_len);
+    CHECK_EQ(pv_1230_write(copy, data_len, BLOCK_1230_START, signals, n, biases, n, extra, PV_EXTRA_SIZE), PV_ACCEPTED);
+    CHECK(memcmp(copy, frame + 3, data_len) == 0);
+    for (size_t i = 0; i < n; i++)
+        CHECK_EQ(biases[i], -3597);
+}
+
+static void visit_frame(const uint8_t *frame, size_t place)
+{
+    size_t data_len = 0;
+    uint64_t number = number_of(frame, &data_len);
+    CHECK(memcmp(frame, stream + place, data_len + 6) == 0);
+    if (number == 1059 && decoded != NULL)
+        visit_1059(frame, data_len, place);
+    if (number == 1230)
+        visit_1230(frame, data_len);
+}
+
+/* ---- The run. ---- */
+
+static void scan_recording(const struct recording *known)
+{
+    static const size_t cuts[] = { 1, 7, 1460, 65536 };
+    for (size_t i = 0; i < sizeof cuts / sizeof cuts[0]; i++) {
+        struct recording found = scan_in_pieces(cuts[i], i == 0 ? visit_frame : NULL);
+        CHECK_EQ(found.bytes, known->bytes);
+        CHECK_EQ(found.frames, known->frames);
+        CHECK_EQ(found.skipped, known->skipped);
+        CHECK_EQ(found.held, known->held);
+    }
+}
+
+static void open_decoded(const char *path)
+{
+    char line[100];
+    decoded = fopen(path, "r");
+    CHECK(decoded != NULL && fgets(line, sizeof line, decoded) != NULL);
+}
+
+int main(int argc, char **argv)
+{
+    size_t scanned = 0;
+    for (int a = 1; a < argc; a++)
+        if (strcmp(last_name(argv[a]), "rtcm3-1.1059.tsv") == 0)
+            open_decoded(argv[a]);
+    for (int a = 1; a < argc; a++) {
+        for (size_t i = 0; i < sizeof recordings / sizeof recordings[0]; i++) {
+            if (strcmp(last_name(argv[a]), recordings[i].name) != 0)
+                continue;
+            CHECK_EQ(read_file(argv[a]), 0);
+            scan_recording(&recordings[i]);
+            scanned++;
+        }
+    }
+    CHECK_EQ(scanned, sizeof recordings / sizeof recordings[0]);
+    CHECK_EQ(records_1059, 3162);
+    CHECK_EQ(messages_1230, 9);
+    printf("recordings: %zu scanned, %zu records of 1059, %zu messages of 1230 with %zu biases\n", scanned, records_1059,
+           messages_1230, biases_1230);
+    if (decoded != NULL)
+        fclose(decoded);
+    return checks_result("recordings");
+}

@@ -1,0 +1,114 @@
+-- From what a call found and what it was told to its statement. Assumes nothing.
+use mathlib.Core.Path.{_≡_, refl, sym, ap, _∙_}
+use mathlib.Core.Bool.{Bool, true, false, cond}
+use mathlib.Core.List.{List}
+use Prim.Native.Nat.{ℕ}
+use lib.ListN.{length}
+use lib.IntN.{ℤ}
+use lib.Dec.{eqb}
+use borrow.Author.Tests.{eq-eqb, ne-eqb}
+use Rattle.bits.specs.Told.{Told, Accepted}
+use Rattle.bits.specs.Field.{Wrote, wrote}
+use Rattle.frames.specs.Call.{FedAnswer, Outcome, outcome}
+use Rattle.messages.specs.Records.{Counted}
+use Rattle.messages.specs.Block1059.{Read1059, outcome1059}
+use Rattle.messages.specs.Block1230.{Read1230, outcome1230}
+use Rattle.peerivolt.specs.Extra.{Numbers, numbers, inNumbers, returned, answered, reads}
+use Rattle.peerivolt.specs.Fields.{endValues, writes}
+use Rattle.peerivolt.specs.Scanner.{fedValues, feeds}
+use Rattle.peerivolt.specs.Biases.{countedValues, reads1059, reads1230}
+
+-- an answer x of the code that is known to be y tells what y tells
+pub tells : {E A : Type 0} (values : A → List ℕ) (told : E → Told A) {x y : E} → x ≡ y → inNumbers values (told y) ≡ inNumbers values (told x)
+tells values told e = ap (λ x. inNumbers values (told x)) (sym e)
+
+-- ---- any call
+
+-- the extra area has another size
+not-sized : {A Areas : Type 0} (values : A → List ℕ) (e : List ℕ) (before : Areas) (told : Told A) (after : Areas)
+    → (length e ≡ 8 → ⊥) → returned 9 e before ≡ answered values e before told after
+not-sized values e before told after n = simp (ne-eqb (length e) 8 n)
+
+-- the extra area has its size, and was filled with what the outcome tells: the outcome v of the code, which is w by its statement
+module _ {W A Areas : Type 0} (values : A → List ℕ) (told : W → Told A) (after : W → Areas) where
+  sized : (e : List ℕ) (before : Areas) {v w : W} {r : ℕ} {e' : List ℕ}
+      → length e ≡ 8 → numbers r e' ≡ inNumbers values (told v) → v ≡ w → returned r e' (after v) ≡ answered values e before (told w) (after w)
+  sized e before {v} {w} h q o =
+      ap (λ (n : Numbers). record { answer = n; areas = after v }) q
+      ∙ ap (λ (u : W). record { answer = inNumbers values (told u); areas = after u }) o
+      ∙ simp (eq-eqb (length e) 8 h)
+
+-- ---- a call that is lent the extra area alone
+
+pub not-read : {A : Type 0} (values : A → List ℕ) (d : Told A) (e : List ℕ) → (length e ≡ 8 → ⊥) → returned 9 e tt ≡ reads values d e
+unfolding reads
+not-read values d e n = not-sized values e tt d tt n
+
+pub read : {A : Type 0} (values : A → List ℕ) {told d : Told A} (e : List ℕ) {r : ℕ} {e' : List ℕ}
+    → length e ≡ 8 → numbers r e' ≡ inNumbers values told → told ≡ d → returned r e' tt ≡ reads values d e
+unfolding reads
+read values e h q o = sized values (λ d. d) (λ d. tt) e tt h q o
+
+-- and that refuses nothing
+pub found : {A : Type 0} (values : A → List ℕ) {a d : A} (e : List ℕ) {r : ℕ} {e' : List ℕ}
+    → length e ≡ 8 → numbers r e' ≡ inNumbers values (Accepted a) → a ≡ d → returned r e' tt ≡ reads values (Accepted d) e
+found values e h q o = read values e h q (ap Accepted o)
+
+-- ---- a call that writes bytes
+
+pub not-written : (s : List ℕ) (w : Wrote) (e : List ℕ) → (length e ≡ 8 → ⊥) → returned 9 e s ≡ writes s w e
+unfolding writes
+not-written s w e n = not-sized endValues e s (w .answer) (w .bytes) n
+
+pub written : (s : List ℕ) {told : Told ℕ} {t : List ℕ} {w : Wrote} (e : List ℕ) {r : ℕ} {e' : List ℕ}
+    → length e ≡ 8 → numbers r e' ≡ inNumbers endValues told → wrote told t ≡ w → returned r e' t ≡ writes s w e
+unfolding writes
+written s e h q o = sized endValues (λ (w : Wrote). w .answer) (λ (w : Wrote). w .bytes) e s h q o
+
+-- ---- a call of the scanner
+
+either : {A : Type 0} (b : Bool) {x y : A} → x ≡ y → x ≡ cond b y x
+either true e = e
+either false e = refl
+
+pub not-fed : (a o : List ℕ) (w : Outcome) (e : List ℕ) → (length e ≡ 8 → ⊥) → returned 9 e (a, o) ≡ feeds a o w e
+unfolding feeds
+not-fed a o w e n = either (eqb (length a) 1029) (not-sized fedValues e (a, o) (w .answer) (w .held, w .out) n)
+
+pub not-held : (a o : List ℕ) (w : Outcome) (e : List ℕ) → (length a ≡ 1029 → ⊥) → returned 9 e (a, o) ≡ feeds a o w e
+unfolding feeds
+not-held a o w e n = simp (ne-eqb (length a) 1029 n)
+
+pub fed : (a o : List ℕ) {told : Told FedAnswer} {a' o' : List ℕ} {w : Outcome} (e : List ℕ) {r : ℕ} {e' : List ℕ} → length a ≡ 1029
+    → length e ≡ 8 → numbers r e' ≡ inNumbers fedValues told → outcome told a' o' ≡ w → returned r e' (a', o') ≡ feeds a o w e
+unfolding feeds
+fed a o e k h q p =
+    sized fedValues (λ (w : Outcome). w .answer) (λ (w : Outcome). (w .held, w .out)) e (a, o) h q p
+    ∙ simp (eq-eqb (length a) 1029 k)
+
+-- ---- reading a bias block
+
+pub not-read1059 : (sats gs : List ℕ) (zs : List ℤ) (w : Read1059) (e : List ℕ)
+    → (length e ≡ 8 → ⊥) → returned 9 e (sats, gs, zs) ≡ reads1059 sats gs zs w e
+unfolding reads1059
+not-read1059 sats gs zs w e n =
+    not-sized countedValues e (sats, gs, zs) (w .answer) (w .satellites, w .signals, w .biases) n
+
+pub read1059 : (sats gs : List ℕ) (zs : List ℤ) {told : Told Counted} {sats' gs' : List ℕ} {zs' : List ℤ} {w : Read1059} (e : List ℕ) {r : ℕ} {e' : List ℕ}
+    → length e ≡ 8 → numbers r e' ≡ inNumbers countedValues told → outcome1059 told sats' gs' zs' ≡ w
+    → returned r e' (sats', gs', zs') ≡ reads1059 sats gs zs w e
+unfolding reads1059
+read1059 sats gs zs e h q o =
+    sized countedValues (λ (w : Read1059). w .answer) (λ (w : Read1059). (w .satellites, w .signals, w .biases)) e (sats, gs, zs) h q o
+
+pub not-read1230 : (gs : List ℕ) (zs : List ℤ) (w : Read1230) (e : List ℕ)
+    → (length e ≡ 8 → ⊥) → returned 9 e (gs, zs) ≡ reads1230 gs zs w e
+unfolding reads1230
+not-read1230 gs zs w e n = not-sized countedValues e (gs, zs) (w .answer) (w .signals, w .biases) n
+
+pub read1230 : (gs : List ℕ) (zs : List ℤ) {told : Told Counted} {gs' : List ℕ} {zs' : List ℤ} {w : Read1230} (e : List ℕ) {r : ℕ} {e' : List ℕ}
+    → length e ≡ 8 → numbers r e' ≡ inNumbers countedValues told → outcome1230 told gs' zs' ≡ w
+    → returned r e' (gs', zs') ≡ reads1230 gs zs w e
+unfolding reads1230
+read1230 gs zs e h q o =
+    sized countedValues (λ (w : Read1230). w .answer) (λ (w : Read1230). (w .signals, w .biases)) e (gs, zs) h q o

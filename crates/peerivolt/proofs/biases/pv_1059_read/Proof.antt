@@ -1,0 +1,51 @@
+-- The block is read, and the answer goes into the extra area. Assumes nothing.
+use mathlib.Core.Path.{_∙_}
+use borrow.Author.Needs.{needs}
+use Rattle.peerivolt.proofs.AnswerLaws.{not-read1059, read1059}
+use Rattle.peerivolt.proofs.biases.pv_1059_read.Statement.{statement}
+use Rattle.peerivolt.proofs.biases.pv_1059_read.Tie as tie
+
+returns : tie.Need-returns
+returns c = not-read1059 _ _ _ _ _ (c .if1 .taken)
+
+read-requires : tie.Need-read-requires
+read-requires c κs = search needs
+
+block-read-requires : tie.Need-block-read-requires
+block-read-requires c κs = search needs
+
+fill-requires : tie.Need-fill-requires
+fill-requires c κs = search needs
+
+same-length : tie.Need-same-length
+same-length c = search needs
+
+same-length-2 : tie.Need-same-length-2
+same-length-2 c = search needs
+
+same-length-3 : tie.Need-same-length-3
+same-length-3 c = search needs
+
+same-length-4 : tie.Need-same-length-4
+same-length-4 c = search needs
+
+returns-2 : tie.Need-returns-2
+returns-2 c =
+    let f = c .before .before in
+    let t = f .before .before in
+    let b = t .before .before .before .before .before .before in
+    read1059 _ _ _ _ (b .before .before .before .before .if1 .left) (f .fill .ensures ∙ t .block-read .ensures) (b .read .ensures)
+
+pub pv-1059-read-spec : {M : Type 1} → statement M
+pv-1059-read-spec =
+    tie.close
+    (tie.spec
+    returns
+    read-requires
+    block-read-requires
+    fill-requires
+    same-length
+    same-length-2
+    same-length-3
+    same-length-4
+    returns-2)

@@ -1,0 +1,43 @@
+-- The block is written, and the answer goes into the extra area. Assumes nothing.
+use mathlib.Core.Path.{_∙_}
+use borrow.Author.Needs.{needs}
+use Rattle.peerivolt.proofs.AnswerLaws.{not-written, written}
+use Rattle.peerivolt.proofs.biases.pv_1059_write.Statement.{statement}
+use Rattle.peerivolt.proofs.biases.pv_1059_write.Tie as tie
+
+returns : tie.Need-returns
+returns c = not-written _ _ _ (c .if1 .taken)
+
+write-requires : tie.Need-write-requires
+write-requires c κs = search needs
+
+block-written-requires : tie.Need-block-written-requires
+block-written-requires c κs = search needs
+
+fill-requires : tie.Need-fill-requires
+fill-requires c κs = search needs
+
+same-length : tie.Need-same-length
+same-length c = search needs
+
+same-length-2 : tie.Need-same-length-2
+same-length-2 c = search needs
+
+returns-2 : tie.Need-returns-2
+returns-2 c =
+    let f = c .before .before in
+    let t = f .before .before in
+    let b = t .before .before .before in
+    written _ _ (b .before .before .if1 .left) (f .fill .ensures ∙ t .block-written .ensures) (b .write .ensures)
+
+pub pv-1059-write-spec : {M : Type 1} → statement M
+pv-1059-write-spec =
+    tie.close
+    (tie.spec
+    returns
+    write-requires
+    block-written-requires
+    fill-requires
+    same-length
+    same-length-2
+    returns-2)

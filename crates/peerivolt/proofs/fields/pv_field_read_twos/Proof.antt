@@ -1,0 +1,33 @@
+-- The call reads, and its answer goes into the extra area. Assumes nothing.
+use mathlib.Core.Path.{_∙_}
+use borrow.Author.Needs.{needs}
+use Rattle.peerivolt.specs.Fields.{signedValues}
+use Rattle.peerivolt.proofs.AnswerLaws.{not-read, read}
+use Rattle.peerivolt.proofs.fields.pv_field_read_twos.Statement.{statement}
+use Rattle.peerivolt.proofs.fields.pv_field_read_twos.Tie as tie
+
+returns : tie.Need-returns
+returns c = not-read signedValues _ _ (c .if1 .taken)
+
+read-twos-requires : tie.Need-read-twos-requires
+read-twos-requires c κs = search needs
+
+signed-read-requires : tie.Need-signed-read-requires
+signed-read-requires c κs = search needs
+
+fill-requires : tie.Need-fill-requires
+fill-requires c κs = search needs
+
+same-length : tie.Need-same-length
+same-length c = search needs
+
+returns-2 : tie.Need-returns-2
+returns-2 c =
+    let f = c .before .before in
+    let t = f .before .before in
+    read signedValues _ (t .before .before .if1 .left) (f .fill .ensures ∙ t .signed-read .ensures) (t .before .read-twos .ensures)
+
+pub pv-field-read-twos-spec : {M : Type 1} → statement M
+pv-field-read-twos-spec =
+    tie.close
+    (tie.spec returns read-twos-requires signed-read-requires fill-requires same-length returns-2)

@@ -1,0 +1,48 @@
+-- The call writes, and its answer goes into the extra area. Assumes nothing.
+use mathlib.Core.Path.{ap, _∙_}
+use mir.Syntax.{w64}
+use mir.ValLaws.{toZ-ofZ}
+use borrow.Author.Needs.{needs}
+use Rattle.bits.specs.Field.{writeTwos}
+use Rattle.peerivolt.proofs.AnswerLaws.{not-written, written}
+use Rattle.peerivolt.proofs.fields.pv_field_write_twos.Statement.{statement}
+use Rattle.peerivolt.proofs.fields.pv_field_write_twos.Tie as tie
+
+returns : tie.Need-returns
+returns c = not-written _ _ _ (c .if1 .taken)
+
+write-twos-requires : tie.Need-write-twos-requires
+write-twos-requires c κs = search needs
+
+written-requires : tie.Need-written-requires
+written-requires c κs = search needs
+
+fill-requires : tie.Need-fill-requires
+fill-requires c κs = search needs
+
+same-length : tie.Need-same-length
+same-length c = search needs
+
+same-length-2 : tie.Need-same-length-2
+same-length-2 c = search needs
+
+returns-2 : tie.Need-returns-2
+returns-2 c =
+    let f = c .before .before in
+    let t = f .before .before in
+    let b = t .before .before .before in
+    let s = b .before .before .before .before .before in
+    written _ _ (b .before .before .if1 .left) (f .fill .ensures ∙ t .written .ensures)
+    (b .write-twos .ensures ∙ ap (writeTwos _ _ _) (toZ-ofZ w64 (s .args .value) (s .fits .value)))
+
+pub pv-field-write-twos-spec : {M : Type 1} → statement M
+pv-field-write-twos-spec =
+    tie.close
+    (tie.spec
+    returns
+    write-twos-requires
+    written-requires
+    fill-requires
+    same-length
+    same-length-2
+    returns-2)

@@ -1,0 +1,45 @@
+-- Each arm tells what its answer tells. Assumes nothing.
+use mathlib.Core.Path.{_∙_}
+use borrow.Author.Needs.{needs}
+use Rattle.frames.specs.Answers.{toldChecked}
+use Rattle.peerivolt.specs.Frames.{wholeValues}
+use Rattle.peerivolt.proofs.AnswerLaws.{tells}
+use Rattle.peerivolt.proofs.one_frame.checked.Statement.{statement}
+use Rattle.peerivolt.proofs.one_frame.checked.Tie as tie
+
+enum-known-answer : tie.Need-enum-known-answer
+enum-known-answer c = search needs
+
+cast-whole : tie.Need-cast-whole
+cast-whole c = search needs
+
+whole-requires : tie.Need-whole-requires
+whole-requires c κs = search needs
+
+enum-told : tie.Need-enum-told
+enum-told c = search needs
+
+enum-told-2 : tie.Need-enum-told-2
+enum-told-2 c = search needs
+
+returns : tie.Need-returns
+returns c = c .whole .ensures ∙ tells wholeValues toldChecked (c .before .before .answer .given .1)
+
+returns-2 : tie.Need-returns-2
+returns-2 c = tells wholeValues toldChecked (c .enum-told .given .1)
+
+returns-3 : tie.Need-returns-3
+returns-3 c = tells wholeValues toldChecked (c .enum-told2 .given .1)
+
+pub checked-spec : {M : Type 1} → statement M
+checked-spec =
+    tie.close
+    (tie.spec
+    enum-known-answer
+    cast-whole
+    whole-requires
+    enum-told
+    enum-told-2
+    returns
+    returns-2
+    returns-3)

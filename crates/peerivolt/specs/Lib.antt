@@ -1,0 +1,7 @@
+pub mod Extra
+pub mod Answers
+pub mod Fields
+pub mod Frames
+pub mod Scanner
+pub mod Signals
+pub mod Biases

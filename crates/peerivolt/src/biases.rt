@@ -1,0 +1,146 @@
+// Bias blocks, and biases in metres.
+ghost use mathlib.Core.Path.{_≡_};
+ghost use Rattle.messages.specs.Block1059.{read1059};
+ghost use Rattle.messages.specs.Block1230.{read1230};
+ghost use Rattle.messages.specs.Write1059.{write1059};
+ghost use Rattle.messages.specs.Write1230.{write1230};
+ghost use Rattle.messages.specs.Metres.{metres1059, metres1230};
+ghost use Rattle.messages.specs.Answers.{toldRead, toldBlock};
+ghost use Rattle.peerivolt.specs.Extra.{returned, inNumbers};
+ghost use Rattle.peerivolt.specs.Answers.{replied};
+ghost use Rattle.peerivolt.specs.Fields.{endValues, writes};
+ghost use Rattle.peerivolt.specs.Biases.{countedValues, reads1059, reads1230};
+use crate::extra;
+use crate::extra::Reply;
+use messages::answer::BlockRead;
+use messages::answer::BlockWritten;
+use messages::bias::Bias1059;
+use messages::bias::Bias1230;
+use messages::block1059;
+use messages::block1230;
+use messages::write1059;
+use messages::write1230;
+
+// Reads the block of message 1059 from bit `start` on into the lists. Extra: how many records, and the end bit.
+#[no_mangle]
+pub extern "C" fn pv_1059_read(
+    bytes: &[u8],
+    start: usize,
+    satellites: &mut [u8],
+    signals: &mut [u8],
+    biases: &mut [i16],
+    extra: &mut [u64],
+) -> u32
+    ensures { λ r. ⌜ returned r (now (extra .exit)) (now (satellites .exit), now (signals .exit), now (biases .exit)) ≡ reads1059 (now (satellites .entry)) (now (signals .entry)) (now (biases .entry)) (read1059 (now (bytes .entry)) start (now (satellites .entry)) (now (signals .entry)) (now (biases .entry))) (now (extra .entry)) ⌝ }
+{
+    if extra.len() != 8 {
+        return 9;
+    }
+    extra::fill(
+        block_read(block1059::read(bytes, start, satellites, signals, biases)),
+        extra,
+    )
+}
+
+// Writes the block of message 1059 from bit `start` on. Extra: the end bit.
+#[no_mangle]
+pub extern "C" fn pv_1059_write(
+    bytes: &mut [u8],
+    start: usize,
+    satellites: &[u8],
+    signals: &[u8],
+    biases: &[i16],
+    extra: &mut [u64],
+) -> u32
+    ensures { λ r. ⌜ returned r (now (extra .exit)) (now (bytes .exit)) ≡ writes (now (bytes .entry)) (write1059 1 (now (bytes .entry)) start (now (satellites .entry)) (now (signals .entry)) (now (biases .entry))) (now (extra .entry)) ⌝ }
+{
+    if extra.len() != 8 {
+        return 9;
+    }
+    extra::fill(
+        block_written(write1059::write(bytes, start, satellites, signals, biases)),
+        extra,
+    )
+}
+
+// Reads the block of message 1230 from bit `start` on into the lists. Extra: how many records, and the end bit.
+#[no_mangle]
+pub extern "C" fn pv_1230_read(
+    bytes: &[u8],
+    start: usize,
+    signals: &mut [u8],
+    biases: &mut [i16],
+    extra: &mut [u64],
+) -> u32
+    ensures { λ r. ⌜ returned r (now (extra .exit)) (now (signals .exit), now (biases .exit)) ≡ reads1230 (now (signals .entry)) (now (biases .entry)) (read1230 (now (bytes .entry)) start (now (signals .entry)) (now (biases .entry))) (now (extra .entry)) ⌝ }
+{
+    if extra.len() != 8 {
+        return 9;
+    }
+    extra::fill(
+        block_read(block1230::read(bytes, start, signals, biases)),
+        extra,
+    )
+}
+
+// Writes the block of message 1230 from bit `start` on. Extra: the end bit.
+#[no_mangle]
+pub extern "C" fn pv_1230_write(
+    bytes: &mut [u8],
+    start: usize,
+    signals: &[u8],
+    biases: &[i16],
+    extra: &mut [u64],
+) -> u32
+    ensures { λ r. ⌜ returned r (now (extra .exit)) (now (bytes .exit)) ≡ writes (now (bytes .entry)) (write1230 (now (bytes .entry)) start (now (signals .entry)) (now (biases .entry))) (now (extra .entry)) ⌝ }
+{
+    if extra.len() != 8 {
+        return 9;
+    }
+    extra::fill(
+        block_written(write1230::write(bytes, start, signals, biases)),
+        extra,
+    )
+}
+
+// A raw bias of message 1059 in metres.
+#[no_mangle]
+pub extern "C" fn pv_1059_metres(raw: i16) -> f32
+    ensures { λ r. ⌜ r ≡ metres1059 raw ⌝ }
+{
+    Bias1059(raw).metres()
+}
+
+// A raw bias of message 1230 in metres.
+#[no_mangle]
+pub extern "C" fn pv_1230_metres(raw: i16) -> f32
+    ensures { λ r. ⌜ r ≡ metres1230 raw ⌝ }
+{
+    Bias1230(raw).metres()
+}
+
+fn block_read(answer: BlockRead) -> Reply
+    ensures { λ r. ⌜ replied r ≡ inNumbers countedValues (toldRead answer) ⌝ }
+{
+    match answer {
+        BlockRead::Records { count, end } => Reply(0, count as u64, end as u64, 0, 0, 0),
+        BlockRead::Size => Reply(9, 0, 0, 0, 0, 0),
+        BlockRead::Short(place) => Reply(1, place as u64, 0, 0, 0, 0),
+        BlockRead::Room(records) => Reply(8, records as u64, 0, 0, 0, 0),
+    }
+}
+
+fn block_written(answer: BlockWritten) -> Reply
+    ensures { λ r. ⌜ replied r ≡ inNumbers endValues (toldBlock answer) ⌝ }
+{
+    match answer {
+        BlockWritten::End(q) => Reply(0, q as u64, 0, 0, 0, 0),
+        BlockWritten::Size => Reply(9, 0, 0, 0, 0, 0),
+        BlockWritten::Satellite(index) => Reply(5, index as u64, 0, 0, 0, 0),
+        BlockWritten::Signal(index) => Reply(4, index as u64, 0, 0, 0, 0),
+        BlockWritten::Range(index) => Reply(3, index as u64, 0, 0, 0, 0),
+        BlockWritten::TooMany(which) => Reply(6, which as u64, 0, 0, 0, 0),
+        BlockWritten::Duplicate(index) => Reply(7, index as u64, 0, 0, 0, 0),
+        BlockWritten::Room(bits) => Reply(8, bits as u64, 0, 0, 0, 0),
+    }
+}

@@ -1,0 +1,223 @@
+//! rtcm-rs behind C names, so that the benchmark's own driver can time it beside the library. rtcm_rust.h describes
+//! the calls. The caller gives valid pointers and lengths, and inputs on which the crate does not panic.
+use rtcm_wrapping::calls::{self, List1059, List1230};
+use shapes::{Bias1059, Bias1230, FieldType, Reading};
+use std::slice;
+
+/// # Safety
+/// The pointer is valid for that many elements, or the length is 0.
+unsafe fn area<'a, T>(first: *const T, len: usize) -> &'a [T] {
+    match len {
+        0 => &[],
+        _ => slice::from_raw_parts(first, len),
+    }
+}
+
+/// # Safety
+/// The pointer is valid for that many elements and for writing, or the length is 0.
+unsafe fn area_mut<'a, T>(first: *mut T, len: usize) -> &'a mut [T] {
+    match len {
+        0 => &mut [],
+        _ => slice::from_raw_parts_mut(first, len),
+    }
+}
+
+/// The crate's smallest unsigned type for a width.
+fn unsigned(width: usize) -> FieldType {
+    FieldType {
+        reading: Reading::Unsigned,
+        bits: width.next_power_of_two().max(8),
+    }
+}
+
+/// # Safety
+/// The area is valid.
+#[no_mangle]
+pub unsafe extern "C" fn rs_crc24q(bytes: *const u8, len: usize) -> u32 {
+    calls::checksum(area(bytes, len))
+}
+
+/// # Safety
+/// The area is valid.
+#[no_mangle]
+pub unsafe extern "C" fn rs_field_read(
+    data: *const u8,
+    len: usize,
+    start: usize,
+    width: usize,
+) -> u64 {
+    let value = calls::parse(unsigned(width), area(data, len), start, width);
+    value.map_or(u64::MAX, |(value, _)| value as u64)
+}
+
+/// # Safety
+/// The area is valid and can be written.
+#[no_mangle]
+pub unsafe extern "C" fn rs_field_write(
+    data: *mut u8,
+    len: usize,
+    start: usize,
+    width: usize,
+    value: u64,
+) -> usize {
+    let end = calls::put(
+        unsigned(width),
+        area_mut(data, len),
+        start,
+        width,
+        value as i128,
+    );
+    end.unwrap_or(0)
+}
+
+/// # Safety
+/// The area is valid.
+#[no_mangle]
+pub unsafe extern "C" fn rs_frame_check(bytes: *const u8, len: usize) -> usize {
+    calls::frame(area(bytes, len)).map_or(0, |frame| frame.frame_len)
+}
+
+/// # Safety
+/// The area is valid.
+#[no_mangle]
+pub unsafe extern "C" fn rs_scan(bytes: *const u8, len: usize) -> usize {
+    calls::count_frames(area(bytes, len)).0
+}
+
+/// The bytes that a Rust program keeps between pieces.
+pub struct Stream {
+    bytes: Vec<u8>,
+}
+
+#[no_mangle]
+pub extern "C" fn rs_stream_new() -> Box<Stream> {
+    Box::new(Stream { bytes: Vec::new() })
+}
+
+/// # Safety
+/// The stream is one that `rs_stream_new` gave and `rs_stream_free` was not given; the area is valid.
+#[no_mangle]
+pub unsafe extern "C" fn rs_stream_feed(
+    stream: *mut Stream,
+    piece: *const u8,
+    len: usize,
+) -> usize {
+    let bytes = &mut (*stream).bytes;
+    bytes.extend_from_slice(area(piece, len));
+    let (frames, consumed) = calls::count_frames(bytes);
+    bytes.drain(..consumed);
+    frames
+}
+
+#[no_mangle]
+pub extern "C" fn rs_stream_free(stream: Box<Stream>) {
+    drop(stream);
+}
+
+/// # Safety
+/// The area is valid.
+#[no_mangle]
+pub unsafe extern "C" fn rs_1059_read(data: *const u8, len: usize, start: usize) -> usize {
+    calls::count_1059(area(data, len), start)
+}
+
+/// The band and the letter of a 1059 signal.
+fn signal_1059(number: u8) -> (u8, char) {
+    match number {
+        0 => (1, 'C'),
+        1 => (1, 'P'),
+        2 => (1, 'W'),
+        5 => (2, 'C'),
+        6 => (2, 'D'),
+        7 => (2, 'S'),
+        8 => (2, 'L'),
+        9 => (2, 'X'),
+        10 => (2, 'P'),
+        11 => (2, 'W'),
+        14 => (5, 'I'),
+        _ => (5, 'Q'),
+    }
+}
+
+/// # Safety
+/// The three areas have that many elements.
+#[no_mangle]
+pub unsafe extern "C" fn rs_1059_list_new(
+    satellites: *const u8,
+    signals: *const u8,
+    biases: *const i16,
+    len: usize,
+) -> Box<List1059> {
+    let satellites = area(satellites, len).iter();
+    let rest = area(signals, len).iter().zip(area(biases, len));
+    let record = |(satellite, (signal, bias)): (&u8, (&u8, &i16))| {
+        let (band, letter) = signal_1059(*signal);
+        Bias1059 {
+            satellite: *satellite,
+            band,
+            letter,
+            metres: *bias as f32 * 0.01,
+        }
+    };
+    let records: Vec<Bias1059> = satellites.zip(rest).map(record).collect();
+    Box::new(calls::list_1059(&records))
+}
+
+/// # Safety
+/// The area is valid and can be written; the list is one that `rs_1059_list_new` gave.
+#[no_mangle]
+pub unsafe extern "C" fn rs_1059_write(
+    data: *mut u8,
+    len: usize,
+    start: usize,
+    list: *const List1059,
+) -> usize {
+    calls::encode_1059(area_mut(data, len), start, &*list).1
+}
+
+#[no_mangle]
+pub extern "C" fn rs_1059_list_free(list: Box<List1059>) {
+    drop(list);
+}
+
+/// # Safety
+/// The area is valid.
+#[no_mangle]
+pub unsafe extern "C" fn rs_1230_read(data: *const u8, len: usize, start: usize) -> usize {
+    calls::count_1230(area(data, len), start)
+}
+
+/// # Safety
+/// The two areas have that many elements.
+#[no_mangle]
+pub unsafe extern "C" fn rs_1230_list_new(
+    signals: *const u8,
+    biases: *const i16,
+    len: usize,
+) -> Box<List1230> {
+    let record = |(signal, bias): (&u8, &i16)| Bias1230 {
+        band: if *signal < 8 { 1 } else { 2 },
+        letter: if signal % 2 == 0 { 'C' } else { 'P' },
+        metres: *bias as f32 * 0.02,
+    };
+    let records = area(signals, len).iter().zip(area(biases, len));
+    let records: Vec<Bias1230> = records.map(record).collect();
+    Box::new(calls::list_1230(&records))
+}
+
+/// # Safety
+/// The area is valid and can be written; the list is one that `rs_1230_list_new` gave.
+#[no_mangle]
+pub unsafe extern "C" fn rs_1230_write(
+    data: *mut u8,
+    len: usize,
+    start: usize,
+    list: *const List1230,
+) -> usize {
+    calls::encode_1230(area_mut(data, len), start, &*list).1
+}
+
+#[no_mangle]
+pub extern "C" fn rs_1230_list_free(list: Box<List1230>) {
+    drop(list);
+}

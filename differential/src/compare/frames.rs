@@ -1,0 +1,162 @@
+//! The frame check against `MessageFrame::new`.
+use crate::area::{hex, smaller_bytes, Area, Case, Smaller};
+use crate::pv::{self, Told};
+use crate::random::Random;
+use crate::rust;
+use crate::streams::{any_frame, damaged, framed, PREAMBLE};
+use shapes::{Frame, Refused};
+
+/// Bytes that both sides are asked to check. Any bytes are in the domain.
+#[derive(Clone)]
+struct Bytes {
+    bytes: Vec<u8>,
+}
+
+impl Case for Bytes {
+    fn difference(&self) -> Option<String> {
+        let theirs = rust::frame(&self.bytes);
+        let Some(expected) = expected(&theirs) else {
+            return Some(format!("the Rust answers {theirs:?}"));
+        };
+        let ours = pv::frame_check(&self.bytes);
+        (ours != expected).then(|| format!("the Rust {theirs:?}, ours {ours:?}"))
+    }
+
+    fn smaller(&self) -> Smaller<'_, Bytes> {
+        Box::new(smaller_bytes(&self.bytes).map(|bytes| Bytes { bytes }))
+    }
+
+    fn show(&self) -> String {
+        hex(&self.bytes)
+    }
+}
+
+/// What the frame check must answer where the crate answers this, or nothing if nothing would be right.
+///
+/// Where the data are shorter than two bytes the message number is outside the domain: there is none.
+pub fn expected(theirs: &Result<Frame, Refused>) -> Option<Told> {
+    match theirs {
+        Err("Incomplete") => Some(Told::refused(pv::INCOMPLETE, 0)),
+        Err("NotValid") => Some(Told::refused(pv::NOT_VALID, 0)),
+        Err(_) => None,
+        Ok(frame) if frame.frame_at != 0 || frame.data_at != 3 => None,
+        Ok(frame) => {
+            let number = if frame.data_len >= 2 {
+                frame.number
+            } else {
+                None
+            };
+            Some(Told::accepted(&[
+                frame.frame_len as u64,
+                frame.data_len as u64,
+                number.is_some() as u64,
+                number.unwrap_or(0) as u64,
+                frame.crc as u64,
+            ]))
+        }
+    }
+}
+
+pub fn run(random: &mut Random) -> Vec<Area> {
+    vec![
+        short(random),
+        empty_frames(),
+        headers(random),
+        numbers(random),
+        every_length(random),
+    ]
+}
+
+/// All bytes up to two, and any first two bytes in up to nine.
+fn short(random: &mut Random) -> Area {
+    let mut area = Area::new("frame check: short bytes");
+    area.compare(&Bytes { bytes: Vec::new() });
+    for first in 0..=255 {
+        area.compare(&Bytes { bytes: vec![first] });
+        for second in 0..=255 {
+            for len in 2..10 {
+                let mut bytes = random.bytes(len);
+                bytes[..2].copy_from_slice(&[first, second]);
+                area.compare(&Bytes { bytes });
+            }
+        }
+    }
+    area
+}
+
+/// The frame without data under each of the 2^24 checksums.
+fn empty_frames() -> Area {
+    let mut area = Area::new("frame check: no data, every checksum");
+    let mut case = Bytes {
+        bytes: vec![PREAMBLE, 0, 0, 0, 0, 0],
+    };
+    for sum in 0..1u32 << 24 {
+        case.bytes[3..].copy_from_slice(&sum.to_be_bytes()[1..]);
+        area.compare(&case);
+    }
+    area
+}
+
+/// Every second and third byte, in six bytes, in a whole frame, in one cut short by a byte and in a damaged one.
+fn headers(random: &mut Random) -> Area {
+    let mut area = Area::new("frame check: every header");
+    for header in 0..=u16::MAX {
+        let [reserved, low] = header.to_be_bytes();
+        let six = random.bytes(3);
+        area.compare(&Bytes {
+            bytes: [&[PREAMBLE, reserved, low], &six[..]].concat(),
+        });
+        let data = random.bytes((header & 0x3FF) as usize);
+        let whole = framed(&data, reserved);
+        area.compare(&Bytes {
+            bytes: whole[..whole.len() - 1].to_vec(),
+        });
+        area.compare(&Bytes {
+            bytes: damaged(random, &whole),
+        });
+        area.compare(&Bytes { bytes: whole });
+    }
+    area
+}
+
+/// Every two data bytes, with bytes behind the frame and without, and every single data byte.
+fn numbers(random: &mut Random) -> Area {
+    let mut area = Area::new("frame check: every message number");
+    for number in 0..=u16::MAX {
+        let data = number.to_be_bytes();
+        for data in [&data[..], &data[1..]] {
+            let mut bytes = framed(data, 0);
+            area.compare(&Bytes {
+                bytes: bytes.clone(),
+            });
+            bytes.push(random.byte());
+            area.compare(&Bytes { bytes });
+        }
+    }
+    area
+}
+
+/// Every length of data: as it is, cut, followed by more, and damaged.
+fn every_length(random: &mut Random) -> Area {
+    let mut area = Area::new("frame check: every length, damaged copies");
+    for len in 0..1_024 {
+        for _ in 0..8 {
+            let frame = any_frame(random, len);
+            let behind = random.within(1, 9);
+            let followed = [frame.clone(), random.bytes(behind)].concat();
+            for cut in [0, 5, 6, len + 3, len + 5, len + 6, len + 7] {
+                let cut = cut.min(followed.len());
+                area.compare(&Bytes {
+                    bytes: followed[..cut].to_vec(),
+                });
+            }
+            for _ in 0..12 {
+                area.compare(&Bytes {
+                    bytes: damaged(random, &followed),
+                });
+            }
+            area.compare(&Bytes { bytes: followed });
+        }
+    }
+    area
+}

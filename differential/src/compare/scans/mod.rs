@@ -1,0 +1,167 @@
+//! `next_msg_frame` and `MsgFrameIter` against repeated frame checks and against feeding in pieces.
+mod calls;
+mod pieces;
+mod scanner;
+mod whole;
+
+use crate::area::Area;
+use crate::pv;
+use crate::random::Random;
+use crate::streams::{any_frame, any_stream, PREAMBLE};
+use calls::Call;
+use pieces::Pieces;
+use std::path::Path;
+use whole::Stream;
+
+pub fn run(random: &mut Random, recordings: &Path) -> Vec<Area> {
+    let mut whole = Area::new("scan: MsgFrameIter and next_msg_frame");
+    let mut pieces = Area::new("scan: feeding in pieces");
+    let mut calls = Area::new("scan: single calls of the scanner");
+    short(&mut whole, &mut pieces, &mut calls);
+    mixed(random, &mut whole, &mut pieces);
+    around_limits(random, &mut pieces, &mut calls);
+    any_calls(random, &mut calls);
+    let recorded = recorded(recordings, &mut whole, &mut pieces);
+    if recorded == 0 {
+        println!("  (no recordings in {})", recordings.display());
+    }
+    vec![whole, pieces, calls]
+}
+
+/// All strings of up to eight bytes out of those of the frame without data.
+fn short(whole: &mut Area, pieces: &mut Area, calls: &mut Area) {
+    const ALPHABET: [u8; 5] = [0x00, 0x47, 0xEA, 0x4B, PREAMBLE];
+    for len in 0..=8u32 {
+        for number in 0..5usize.pow(len) {
+            let byte = |place: u32| ALPHABET[number / 5usize.pow(place) % 5];
+            let bytes: Vec<u8> = (0..len).map(byte).collect();
+            whole.compare(&Stream {
+                bytes: bytes.clone(),
+            });
+            pieces.compare(&Pieces {
+                bytes: bytes.clone(),
+                lens: vec![1 + number % 3],
+            });
+            let held = bytes.len().min(number % 9);
+            calls.compare(&Call {
+                held: bytes[..held].to_vec(),
+                piece: bytes[held..].to_vec(),
+            });
+        }
+    }
+}
+
+/// Streams of good and damaged frames and noise, and all-preamble streams, in pieces of many lengths.
+fn mixed(random: &mut Random, whole: &mut Area, pieces: &mut Area) {
+    for _ in 0..4_000 {
+        let len = random.below(3_000);
+        let bytes = any_stream(random, len);
+        whole.compare(&Stream {
+            bytes: bytes.clone(),
+        });
+        let some: Vec<usize> = (0..5).map(|_| random.within(1, 1_200)).collect();
+        for lens in [
+            vec![1],
+            vec![7],
+            vec![100],
+            vec![1_460],
+            vec![pv::PIECE],
+            some,
+        ] {
+            pieces.compare(&Pieces {
+                bytes: bytes.clone(),
+                lens,
+            });
+        }
+    }
+    for len in [1, 6, 984, 985, 986, 1_028, 1_029, 1_030, 3_000] {
+        let bytes = vec![PREAMBLE; len];
+        whole.compare(&Stream {
+            bytes: bytes.clone(),
+        });
+        for lens in [vec![1], vec![1_000], vec![pv::PIECE]] {
+            pieces.compare(&Pieces {
+                bytes: bytes.clone(),
+                lens,
+            });
+        }
+    }
+}
+
+/// The longest frames, false beginnings before them, and pieces of the greatest length.
+fn around_limits(random: &mut Random, pieces: &mut Area, calls: &mut Area) {
+    for len in 1_015..=pv::DATA {
+        for before in 0..8 {
+            let false_start = [PREAMBLE, 3, 0xFF, PREAMBLE, 0, 7, 0, 0];
+            let frame = any_frame(random, len);
+            let bytes = [&false_start[..before], &frame[..], &false_start].concat();
+            for lens in [vec![1], vec![1_028], vec![1_029], vec![pv::PIECE]] {
+                pieces.compare(&Pieces {
+                    bytes: bytes.clone(),
+                    lens,
+                });
+            }
+            for cut in [0, 1, 1_027, 1_028, 1_029] {
+                let cut = cut.min(bytes.len());
+                calls.compare(&Call {
+                    held: bytes[..cut].to_vec(),
+                    piece: bytes[cut..].to_vec(),
+                });
+            }
+        }
+    }
+    for _ in 0..20 {
+        let bytes = any_stream(random, 2 * pv::PIECE);
+        pieces.compare(&Pieces {
+            bytes,
+            lens: vec![pv::PIECE, pv::PIECE - 1],
+        });
+    }
+}
+
+/// Single calls from held bytes that may be anything, in any number that the held area has.
+fn any_calls(random: &mut Random, calls: &mut Area) {
+    for round in 0..60_000 {
+        let count = match round % 3 {
+            0 => random.below(20),
+            1 => random.below(pv::HELD + 1),
+            _ => random.pick(&[0, 1, 5, 6, 7, 1_027, 1_028, 1_029]),
+        };
+        let mut held = any_stream(random, count);
+        held.truncate(count);
+        let len = random.below(40) * random.below(40);
+        let piece = any_stream(random, len);
+        calls.compare(&Call { held, piece });
+    }
+}
+
+/// The real recordings, where they are there. Gives their number.
+fn recorded(folder: &Path, whole: &mut Area, pieces: &mut Area) -> usize {
+    let Ok(files) = std::fs::read_dir(folder) else {
+        return 0;
+    };
+    let is_stream = |name: &Path| {
+        let end = name.extension().and_then(|end| end.to_str());
+        matches!(end, Some("bin" | "rtcm3"))
+    };
+    let mut count = 0;
+    for path in files.flatten().map(|file| file.path()) {
+        if !is_stream(&path) {
+            continue;
+        }
+        let Ok(bytes) = std::fs::read(&path) else {
+            continue;
+        };
+        count += 1;
+        whole.compare(&Stream {
+            bytes: bytes.clone(),
+        });
+        for lens in [vec![1], vec![7, 100, 1_460], vec![pv::PIECE]] {
+            pieces.compare(&Pieces {
+                bytes: bytes.clone(),
+                lens,
+            });
+        }
+    }
+    count
+}

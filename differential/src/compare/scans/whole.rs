@@ -1,0 +1,75 @@
+//! A whole stream, scanned by repeated frame checks.
+use crate::area::{hex, smaller_bytes, Case, Smaller};
+use crate::pv;
+use crate::rust;
+use crate::streams::PREAMBLE;
+use shapes::{Refused, Scanned};
+
+/// A whole stream, scanned by repeated frame checks.
+#[derive(Clone)]
+pub struct Stream {
+    pub bytes: Vec<u8>,
+}
+
+impl Stream {
+    /// The whole-stream scan by our frame check.
+    fn scanned(&self) -> Scanned {
+        let mut scanned = Scanned::default();
+        while scanned.consumed < self.bytes.len() {
+            let rest = &self.bytes[scanned.consumed..];
+            if rest[0] != PREAMBLE {
+                scanned.consumed += 1;
+                continue;
+            }
+            let told = pv::frame_check(rest);
+            match told.number {
+                0 => {
+                    let len = told.extra[0] as usize;
+                    scanned.frames.push((scanned.consumed, len));
+                    scanned.consumed += len;
+                }
+                pv::NOT_VALID => scanned.consumed += 1,
+                _ => break,
+            }
+        }
+        scanned
+    }
+
+    /// What `next_msg_frame` gives first: the frame's place and length, and the bytes consumed.
+    fn first(&self) -> Result<Scanned, Refused> {
+        let (consumed, frame) = rust::next_frame(&self.bytes)?;
+        let frames = frame.map(|frame| (frame.frame_at, frame.frame_len));
+        Ok(Scanned {
+            frames: frames.into_iter().collect(),
+            consumed,
+        })
+    }
+}
+
+impl Case for Stream {
+    fn difference(&self) -> Option<String> {
+        let theirs = rust::scan(&self.bytes);
+        let ours = self.scanned();
+        if theirs.as_ref() != Ok(&ours) {
+            return Some(format!("the Rust {theirs:?}, ours {ours:?}"));
+        }
+        let first = self.first();
+        let expected = match ours.frames.first() {
+            Some((place, len)) => Scanned {
+                frames: vec![(*place, *len)],
+                consumed: place + len,
+            },
+            None => ours,
+        };
+        let same = first.as_ref() == Ok(&expected);
+        (!same).then(|| format!("next_msg_frame {first:?}, ours {expected:?}"))
+    }
+
+    fn smaller(&self) -> Smaller<'_, Stream> {
+        Box::new(smaller_bytes(&self.bytes).map(|bytes| Stream { bytes }))
+    }
+
+    fn show(&self) -> String {
+        hex(&self.bytes)
+    }
+}

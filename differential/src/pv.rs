@@ -1,0 +1,352 @@
+//! The functions of libpeerivolt.a, and a safe call for each. An area is a pointer and a length in elements.
+use shapes::Reading;
+
+/// Numbers in the extra area.
+pub const EXTRA: usize = 8;
+/// Bytes in a scanner's held area, and in the longest frame.
+pub const HELD: usize = 1_029;
+/// Bytes in the longest data area.
+pub const DATA: usize = 1_023;
+/// Bytes in the longest piece.
+pub const PIECE: usize = 65_536;
+/// Records that suffice for every 1059 block.
+pub const RECORDS_1059: usize = 422;
+
+pub const SHORT: u32 = 1;
+pub const WIDTH: u32 = 2;
+pub const RANGE: u32 = 3;
+pub const SIGNAL: u32 = 4;
+pub const SATELLITE: u32 = 5;
+pub const TOO_MANY: u32 = 6;
+pub const DUPLICATE: u32 = 7;
+pub const ROOM: u32 = 8;
+pub const SIZE: u32 = 9;
+pub const NOT_VALID: u32 = 10;
+pub const STATE: u32 = 11;
+pub const INCOMPLETE: u32 = 12;
+
+/// What the extra area holds before a call, so that a number that was not written shows.
+const UNWRITTEN: u64 = 0xA5A5_5A5A_A5A5_5A5A;
+
+mod raw {
+    extern "C" {
+        pub fn pv_crc24q(bytes: *const u8, len: usize) -> u32;
+        pub fn pv_frame_check(
+            bytes: *const u8,
+            len: usize,
+            extra: *mut u64,
+            extra_len: usize,
+        ) -> u32;
+        pub fn pv_frame_write(
+            data: *const u8,
+            data_len: usize,
+            out: *mut u8,
+            out_len: usize,
+            extra: *mut u64,
+            extra_len: usize,
+        ) -> u32;
+        pub fn pv_feed(
+            held: *mut u8,
+            held_len: usize,
+            held_count: usize,
+            piece: *const u8,
+            piece_len: usize,
+            out: *mut u8,
+            out_len: usize,
+            extra: *mut u64,
+            extra_len: usize,
+        ) -> u32;
+        pub fn pv_1059_read(
+            data: *const u8,
+            data_len: usize,
+            start: usize,
+            satellites: *mut u8,
+            satellites_len: usize,
+            signals: *mut u8,
+            signals_len: usize,
+            biases: *mut i16,
+            biases_len: usize,
+            extra: *mut u64,
+            extra_len: usize,
+        ) -> u32;
+        pub fn pv_1059_write(
+            data: *mut u8,
+            data_len: usize,
+            start: usize,
+            satellites: *const u8,
+            satellites_len: usize,
+            signals: *const u8,
+            signals_len: usize,
+            biases: *const i16,
+            biases_len: usize,
+            extra: *mut u64,
+            extra_len: usize,
+        ) -> u32;
+        pub fn pv_1230_read(
+            data: *const u8,
+            data_len: usize,
+            start: usize,
+            signals: *mut u8,
+            signals_len: usize,
+            biases: *mut i16,
+            biases_len: usize,
+            extra: *mut u64,
+            extra_len: usize,
+        ) -> u32;
+        pub fn pv_1230_write(
+            data: *mut u8,
+            data_len: usize,
+            start: usize,
+            signals: *const u8,
+            signals_len: usize,
+            biases: *const i16,
+            biases_len: usize,
+            extra: *mut u64,
+            extra_len: usize,
+        ) -> u32;
+        pub fn pv_1059_metres(raw: i16) -> f32;
+        pub fn pv_1230_metres(raw: i16) -> f32;
+        pub fn pv_signal_of(system: u32, number: u32, extra: *mut u64, extra_len: usize) -> u32;
+        pub fn pv_number_of(
+            system: u32,
+            band: u32,
+            letter: u32,
+            extra: *mut u64,
+            extra_len: usize,
+        ) -> u32;
+        pub fn pv_signal_order(
+            system: u32,
+            band_a: u32,
+            letter_a: u32,
+            band_b: u32,
+            letter_b: u32,
+            extra: *mut u64,
+            extra_len: usize,
+        ) -> u32;
+    }
+
+    macro_rules! fields {
+        ($($read:ident, $write:ident, $value:ty;)+) => {
+            extern "C" {
+                $(
+                    pub fn $read(
+                        data: *const u8,
+                        data_len: usize,
+                        start: usize,
+                        width: usize,
+                        extra: *mut u64,
+                        extra_len: usize,
+                    ) -> u32;
+                    pub fn $write(
+                        data: *mut u8,
+                        data_len: usize,
+                        start: usize,
+                        width: usize,
+                        value: $value,
+                        extra: *mut u64,
+                        extra_len: usize,
+                    ) -> u32;
+                )+
+            }
+        };
+    }
+
+    fields! {
+        pv_field_read_unsigned, pv_field_write_unsigned, u64;
+        pv_field_read_twos, pv_field_write_twos, i64;
+        pv_field_read_signmag, pv_field_write_signmag, i64;
+    }
+}
+
+/// A call's answer: the returned number, and the extra area.
+#[derive(Clone, Copy, Debug, PartialEq, Eq)]
+pub struct Told {
+    pub number: u32,
+    pub extra: [u64; EXTRA],
+}
+
+impl Told {
+    /// Number 0 with these in the extra area, zeros behind them.
+    pub fn accepted(values: &[u64]) -> Told {
+        Told::of(0, values)
+    }
+
+    /// A refusal and what it carries.
+    pub fn refused(number: u32, carried: u64) -> Told {
+        Told::of(number, &[carried])
+    }
+
+    fn of(number: u32, values: &[u64]) -> Told {
+        let mut extra = [0; EXTRA];
+        extra[..values.len()].copy_from_slice(values);
+        Told { number, extra }
+    }
+
+    fn fresh() -> Told {
+        Told {
+            number: u32::MAX,
+            extra: [UNWRITTEN; EXTRA],
+        }
+    }
+}
+
+pub fn crc24q(bytes: &[u8]) -> u32 {
+    // SAFETY: the pointer and the length are those of a slice.
+    unsafe { raw::pv_crc24q(bytes.as_ptr(), bytes.len()) }
+}
+
+/// Calls a function whose last two parameters are the extra area. Every area before it is a slice's pointer and length,
+/// and no two of them overlap, since they are borrowed at once.
+macro_rules! told {
+    ($function:ident($($argument:expr),*)) => {{
+        let mut told = Told::fresh();
+        // SAFETY: as said above.
+        told.number =
+            unsafe { raw::$function($($argument,)* told.extra.as_mut_ptr(), told.extra.len()) };
+        told
+    }};
+}
+
+pub fn frame_check(bytes: &[u8]) -> Told {
+    told!(pv_frame_check(bytes.as_ptr(), bytes.len()))
+}
+
+pub fn frame_write(data: &[u8], out: &mut [u8]) -> Told {
+    told!(pv_frame_write(
+        data.as_ptr(),
+        data.len(),
+        out.as_mut_ptr(),
+        out.len()
+    ))
+}
+
+pub fn feed(held: &mut [u8], held_count: usize, piece: &[u8], out: &mut [u8]) -> Told {
+    told!(pv_feed(
+        held.as_mut_ptr(),
+        held.len(),
+        held_count,
+        piece.as_ptr(),
+        piece.len(),
+        out.as_mut_ptr(),
+        out.len()
+    ))
+}
+
+pub fn field_read(reading: Reading, data: &[u8], start: usize, width: usize) -> Told {
+    let (area, len) = (data.as_ptr(), data.len());
+    match reading {
+        Reading::Unsigned => told!(pv_field_read_unsigned(area, len, start, width)),
+        Reading::Twos => told!(pv_field_read_twos(area, len, start, width)),
+        Reading::SignMagnitude => told!(pv_field_read_signmag(area, len, start, width)),
+    }
+}
+
+/// Writes the lower 64 bits of the number.
+pub fn field_write(
+    reading: Reading,
+    data: &mut [u8],
+    start: usize,
+    width: usize,
+    value: i128,
+) -> Told {
+    let (area, len) = (data.as_mut_ptr(), data.len());
+    let (plain, signed) = (value as u64, value as i64);
+    match reading {
+        Reading::Unsigned => told!(pv_field_write_unsigned(area, len, start, width, plain)),
+        Reading::Twos => told!(pv_field_write_twos(area, len, start, width, signed)),
+        Reading::SignMagnitude => told!(pv_field_write_signmag(area, len, start, width, signed)),
+    }
+}
+
+/// Three lists of one length, as the 1059 calls take them; the 1230 calls take the last two.
+#[derive(Clone, Debug, PartialEq, Eq)]
+pub struct Lists {
+    pub satellites: Vec<u8>,
+    pub signals: Vec<u8>,
+    pub biases: Vec<i16>,
+}
+
+impl Lists {
+    /// Lists that hold nothing that a block could hold.
+    pub fn unwritten(len: usize) -> Lists {
+        Lists {
+            satellites: vec![0xA5; len],
+            signals: vec![0x5A; len],
+            biases: vec![0x5AA5; len],
+        }
+    }
+}
+
+pub fn read_1059(data: &[u8], start: usize, lists: &mut Lists) -> Told {
+    told!(pv_1059_read(
+        data.as_ptr(),
+        data.len(),
+        start,
+        lists.satellites.as_mut_ptr(),
+        lists.satellites.len(),
+        lists.signals.as_mut_ptr(),
+        lists.signals.len(),
+        lists.biases.as_mut_ptr(),
+        lists.biases.len()
+    ))
+}
+
+pub fn write_1059(data: &mut [u8], start: usize, lists: &Lists) -> Told {
+    told!(pv_1059_write(
+        data.as_mut_ptr(),
+        data.len(),
+        start,
+        lists.satellites.as_ptr(),
+        lists.satellites.len(),
+        lists.signals.as_ptr(),
+        lists.signals.len(),
+        lists.biases.as_ptr(),
+        lists.biases.len()
+    ))
+}
+
+pub fn read_1230(data: &[u8], start: usize, lists: &mut Lists) -> Told {
+    told!(pv_1230_read(
+        data.as_ptr(),
+        data.len(),
+        start,
+        lists.signals.as_mut_ptr(),
+        lists.signals.len(),
+        lists.biases.as_mut_ptr(),
+        lists.biases.len()
+    ))
+}
+
+pub fn write_1230(data: &mut [u8], start: usize, lists: &Lists) -> Told {
+    told!(pv_1230_write(
+        data.as_mut_ptr(),
+        data.len(),
+        start,
+        lists.signals.as_ptr(),
+        lists.signals.len(),
+        lists.biases.as_ptr(),
+        lists.biases.len()
+    ))
+}
+
+pub fn metres_1059(raw: i16) -> f32 {
+    // SAFETY: the call takes and returns a number.
+    unsafe { raw::pv_1059_metres(raw) }
+}
+
+pub fn metres_1230(raw: i16) -> f32 {
+    // SAFETY: the call takes and returns a number.
+    unsafe { raw::pv_1230_metres(raw) }
+}
+
+pub fn signal_of(system: u32, number: u32) -> Told {
+    told!(pv_signal_of(system, number))
+}
+
+pub fn number_of(system: u32, band: u32, letter: u32) -> Told {
+    told!(pv_number_of(system, band, letter))
+}
+
+pub fn signal_order(system: u32, a: (u32, u32), b: (u32, u32)) -> Told {
+    told!(pv_signal_order(system, a.0, a.1, b.0, b.1))
+}

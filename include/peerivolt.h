@@ -1,0 +1,371 @@
+/*
+ * peerivolt.h: RTCM 3 frames, a scanner over pieces of a stream, bit fields, and the bias blocks of messages 1059 and 1230.
+ *
+ * The shortest useful program reads pieces, feeds them and gets whole frames:
+ *
+ *     struct pv_scanner scanner = PV_SCANNER_FRESH;
+ *     struct pv_fed fed;
+ *     uint8_t frame[PV_FRAME_MAX];
+ *     ... for every piece that arrives:
+ *     do {
+ *         if (pv_scanner_feed(&scanner, piece, piece_len, frame, sizeof frame, &fed) != PV_ACCEPTED) ...
+ *         piece += fed.taken;
+ *         piece_len -= fed.taken;
+ *         if (fed.is_frame) use(frame, fed.frame_len);
+ *     } while (fed.is_frame);
+ *
+ * AREAS. An area is a pointer and then its length, counted in elements (not in bytes). A null pointer with length 0 is
+ * an empty area. Otherwise the pointer is aligned for its type and the area is as long as its length says. No two areas
+ * of one call may overlap, not even where one is only read.
+ *
+ * ANSWERS. A call returns 0 (PV_ACCEPTED) or the number of a refusal. A refused call writes nothing into any area but
+ * `extra`, so a refused call can be repeated. The refusals of a function are tested in the order in which its comment
+ * lists them, and it refuses on no other ground.
+ *
+ * EXTRA. The rest of an answer goes into `extra`, an area of exactly PV_EXTRA_SIZE (8) numbers. Its length is tested
+ * before all else: any other length is PV_SIZE, and then nothing at all is written, `extra` included. Otherwise every
+ * call writes all 8 numbers: those that its comment names (PV_AT_.. are their places), and 0 in the other places. After
+ * a refusal extra[PV_AT_CARRIED] is what the refusal carries, or 0 where it carries nothing, and the rest is 0. A signed
+ * number in `extra` is its 64-bit two's complement: cast it to int64_t.
+ *
+ * THREADS. No function keeps anything between calls, allocates, blocks or sets errno. Calls on areas that no other
+ * thread uses at the time may run at once.
+ */
+#ifndef PEERIVOLT_H
+#define PEERIVOLT_H
+
+#include <stddef.h>
+#include <stdint.h>
+
+#ifdef __cplusplus
+extern "C" {
+#endif
+
+/* ---- Refusals: what a call returns, and what the refusal carries in extra[PV_AT_CARRIED]. ---- */
+
+#define PV_ACCEPTED 0u    /* Not refused. */
+#define PV_SHORT 1u       /* A field does not fit in the data. Carries the bit where the field starts. */
+#define PV_WIDTH 2u       /* A width of 0 or above 64. */
+#define PV_RANGE 3u       /* A number does not fit its width. Carries the index of the record, or 0 for a single field. */
+#define PV_SIGNAL 4u      /* A signal to be written is not in the table. Carries the index of the record. */
+#define PV_SATELLITE 5u   /* A satellite above 63. Carries the index of the record. */
+#define PV_TOO_MANY 6u    /* 64 different satellites, or over 31 biases of one. Carries the lowest satellite over 31, else 64. */
+#define PV_DUPLICATE 7u   /* A 1230 signal twice. Carries the index of the first repeat. */
+#define PV_ROOM 8u        /* A lent output is too small. Carries what would have been needed; each function says in what. */
+#define PV_SIZE 9u        /* An input above its limit, lists of unequal length, or an area of fixed size with another size. */
+#define PV_NOT_VALID 10u  /* The first byte is not D3, or the checksum differs. */
+#define PV_STATE 11u      /* A scanner's held count above 1,029. */
+#define PV_INCOMPLETE 12u /* The bytes end before the frame does: more bytes may make it whole. */
+
+/* The name of a refusal, as in "Short"; "Accepted" for 0 and "Unknown" for a number that is no refusal. Never null. */
+static inline const char *pv_refusal_name(uint32_t number)
+{
+    static const char *const names[] = {
+        "Accepted", "Short", "Width", "Range", "Signal", "Satellite", "TooMany",
+        "Duplicate", "Room", "Size", "NotValid", "State", "Incomplete",
+    };
+    return number < sizeof names / sizeof names[0] ? names[number] : "Unknown";
+}
+
+/* ---- Sizes. ---- */
+
+#define PV_EXTRA_SIZE 8      /* Numbers in an extra area, exactly. */
+#define PV_HELD_SIZE 1029    /* Bytes in the held area of a scanner, exactly. */
+#define PV_FRAME_MIN 6       /* Bytes in the shortest frame: three before the data and three behind. */
+#define PV_FRAME_MAX 1029    /* Bytes in the longest frame, and the least output that feeding accepts. */
+#define PV_DATA_MAX 1023     /* Bytes in the longest data area. */
+#define PV_PIECE_MAX 65536   /* Bytes in the longest piece that one feeding call accepts. */
+#define PV_1059_READ_MAX 422 /* Records that always suffice for reading a 1059 block. */
+#define PV_1059_WRITE_MAX 1953 /* Records in the longest list that a 1059 block is written from. */
+#define PV_1230_MAX 4        /* Records in the longest 1230 block, in reading and in writing. */
+
+/* ---- Places in the extra area. ---- */
+
+#define PV_AT_CARRIED 0 /* After any refusal. */
+
+#define PV_AT_FIELD_VALUE 0 /* Field read: the value. */
+#define PV_AT_FIELD_END 0   /* Field written: the bit behind the field. */
+
+#define PV_AT_FRAME_LENGTH 0      /* Frame check and framing: L + 6. */
+#define PV_AT_FRAME_DATA_LENGTH 1 /* Frame check: L. The data are bytes 3 to 3 + L - 1 of the frame. */
+#define PV_AT_FRAME_HAS_NUMBER 2  /* Frame check: 1 if there is a message number, else 0. */
+#define PV_AT_FRAME_NUMBER 3      /* Frame check: the message number, or 0. */
+#define PV_AT_FRAME_CHECKSUM 4    /* Frame check: the checksum. */
+
+#define PV_AT_FED_IS_FRAME 0     /* Feeding: PV_MORE or PV_FRAME. */
+#define PV_AT_FED_TAKEN 1        /* Feeding: bytes of the piece taken. */
+#define PV_AT_FED_SKIPPED 2      /* Feeding: bytes skipped in this call. */
+#define PV_AT_FED_HELD_COUNT 3   /* Feeding: the held count from now on. */
+#define PV_AT_FED_FRAME_LENGTH 4 /* Feeding: bytes of the frame in the output, or 0. */
+
+#define PV_AT_READ_RECORDS 0 /* Block read: how many records. */
+#define PV_AT_READ_END 1     /* Block read: the bit behind the block. */
+#define PV_AT_WRITTEN_END 0  /* Block written: the bit behind the block. */
+
+#define PV_AT_SIGNAL_FOUND 0  /* Number to signal: 1 if the table has the number, else 0. */
+#define PV_AT_SIGNAL_BAND 1   /* Number to signal: the band, as in 1 of 1C. */
+#define PV_AT_SIGNAL_LETTER 2 /* Number to signal: the letter's ASCII code, as in C of 1C. */
+#define PV_AT_NUMBER_FOUND 0  /* Signal to number: 1 if the table has the signal, else 0. */
+#define PV_AT_NUMBER 1        /* Signal to number: the number. */
+#define PV_AT_ORDER 0         /* Order of signals: -1, 0 or 1. */
+
+/* What feeding answers at PV_AT_FED_IS_FRAME. */
+#define PV_MORE 0  /* The whole piece was taken, and there is no frame yet. */
+#define PV_FRAME 1 /* A frame was handed out. */
+
+/* ---- Checksum. ---- */
+
+/*
+ * The CRC-24Q of the bytes: polynomial 864CFB hex, start 0, most significant bit first, no final change. Of no bytes it
+ * is 0. Takes any length and never refuses.
+ */
+uint32_t pv_crc24q(const uint8_t *bytes, size_t bytes_len);
+
+/* ---- Bit fields. ---- */
+
+/*
+ * Read the field of `width` bits from bit `start` on, most significant bit first; bit 0 is the top bit of byte 0. As an
+ * unsigned number, in two's complement, or as sign and magnitude, where the top bit is the sign and minus zero reads as
+ * 0. Any start is allowed, also far past the end.
+ *
+ * Refuses, in this order: PV_SIZE (data above 1,023 bytes), PV_WIDTH, PV_SHORT (carries `start`).
+ * Answers: [PV_AT_FIELD_VALUE] the value; for the signed readings as int64_t.
+ */
+uint32_t pv_field_read_unsigned(const uint8_t *data, size_t data_len, size_t start, size_t width,
+                                uint64_t *extra, size_t extra_len);
+uint32_t pv_field_read_twos(const uint8_t *data, size_t data_len, size_t start, size_t width,
+                            uint64_t *extra, size_t extra_len);
+uint32_t pv_field_read_signmag(const uint8_t *data, size_t data_len, size_t start, size_t width,
+                               uint64_t *extra, size_t extra_len);
+
+/*
+ * Write a number into the `width` bits from bit `start` on and change no other bit. What fits w bits: unsigned, 0 to
+ * 2^w - 1; two's complement, -2^(w-1) to 2^(w-1) - 1; sign and magnitude, -(2^(w-1) - 1) to 2^(w-1) - 1.
+ *
+ * Refuses, in this order: PV_SIZE (data above 1,023 bytes), PV_WIDTH, PV_RANGE (carries 0), PV_ROOM (the field reaches
+ * past the data; carries `width`).
+ * Answers: [PV_AT_FIELD_END] the bit behind the field.
+ */
+uint32_t pv_field_write_unsigned(uint8_t *data, size_t data_len, size_t start, size_t width, uint64_t value,
+                                 uint64_t *extra, size_t extra_len);
+uint32_t pv_field_write_twos(uint8_t *data, size_t data_len, size_t start, size_t width, int64_t value,
+                             uint64_t *extra, size_t extra_len);
+uint32_t pv_field_write_signmag(uint8_t *data, size_t data_len, size_t start, size_t width, int64_t value,
+                                uint64_t *extra, size_t extra_len);
+
+/* ---- One frame. ---- */
+
+/*
+ * Checks whether the bytes begin with a whole and undamaged frame: D3; six reserved bits, which are ignored; a length L
+ * of ten bits; L data bytes; the checksum of the first L + 3 bytes in three bytes, highest first. Takes any length;
+ * bytes after the frame are ignored.
+ *
+ * Refuses, in this order: PV_INCOMPLETE (fewer than 6 bytes, whatever they are), PV_NOT_VALID (the first byte is not
+ * D3), PV_INCOMPLETE (fewer than L + 6 bytes), PV_NOT_VALID (the checksum differs).
+ * Answers: [PV_AT_FRAME_LENGTH] L + 6; [PV_AT_FRAME_DATA_LENGTH] L, the data starting at byte 3;
+ * [PV_AT_FRAME_HAS_NUMBER] 1 if L is at least 2, else 0; [PV_AT_FRAME_NUMBER] the first 12 data bits, or 0;
+ * [PV_AT_FRAME_CHECKSUM] the checksum.
+ */
+uint32_t pv_frame_check(const uint8_t *bytes, size_t bytes_len, uint64_t *extra, size_t extra_len);
+
+/*
+ * Writes the frame of the data, its reserved bits 0, to the start of the output; later output bytes stay as they are.
+ *
+ * Refuses, in this order: PV_SIZE (data above 1,023 bytes), PV_ROOM (output below data_len + 6 bytes; carries that).
+ * Answers: [PV_AT_FRAME_LENGTH] data_len + 6.
+ */
+uint32_t pv_frame_write(const uint8_t *data, size_t data_len, uint8_t *out, size_t out_len,
+                        uint64_t *extra, size_t extra_len);
+
+/* ---- Scanning a stream that comes in pieces. ---- */
+
+/*
+ * Feeds a piece of the stream to a scanner and hands out at most one frame. A scanner is its held bytes: an area of
+ * exactly 1,029 bytes, and how many of them are held. A fresh scanner has a held count of 0, and setting the count to 0
+ * resets it. Most programs use pv_scanner_feed below, which keeps the two together.
+ *
+ * The scanner skips each byte that starts no frame, one at a time: after a bad checksum it skips that one D3 and not the
+ * declared length, so a good frame inside the damage is found. How the stream is cut into pieces makes no difference.
+ *
+ * The answer is PV_FRAME, with the frame at the start of `out` and later output bytes kept; or PV_MORE, with nothing
+ * written to `out` and the whole piece taken. Both return 0. After PV_FRAME call again with the untaken rest of the
+ * piece, piece + taken, and go on, also with an empty rest, until PV_MORE.
+ *
+ * What surprises:
+ * - Taken is the furthest byte that had to be seen, not the end of the frame. Where a false D3 announced a long frame,
+ *   bytes behind the good frame are taken with it and are held.
+ * - So an empty piece can hand out a frame: it was held already. After the last piece, too, go on until PV_MORE.
+ * - One call may skip more bytes than it takes, since held bytes are skipped too.
+ * - Held bytes need not begin with D3 after PV_FRAME; the next call skips what is wrong with them. After PV_MORE they
+ *   are empty or begin with a D3 whose frame is not yet whole.
+ * - A D3 is decided once the 1,028 bytes after it have been taken, often sooner. Until then frames behind it wait.
+ * - From fresh, bytes taken equal bytes in frames plus bytes skipped plus bytes held.
+ *
+ * Refuses, in this order: PV_SIZE (held_len is not 1,029; like a wrong extra_len this writes nothing at all, `extra`
+ * included), PV_STATE (held_count above 1,029), PV_SIZE (piece above 65,536 bytes), PV_ROOM (output below 1,029 bytes,
+ * also where no frame would come; carries 1,029). Keep the old held count after a refusal.
+ * Answers: [PV_AT_FED_IS_FRAME] PV_MORE or PV_FRAME; [PV_AT_FED_TAKEN]; [PV_AT_FED_SKIPPED]; [PV_AT_FED_HELD_COUNT]
+ * the count to pass to the next call; [PV_AT_FED_FRAME_LENGTH]. The held area past that count stays as it was.
+ */
+uint32_t pv_feed(uint8_t *held, size_t held_len, size_t held_count, const uint8_t *piece, size_t piece_len,
+                 uint8_t *out, size_t out_len, uint64_t *extra, size_t extra_len);
+
+/* ---- The bias block of message 1059 (GPS code biases). ---- */
+
+/*
+ * Reads a block from bit `start` of the data on: a satellite count (6 bits); for each satellite its number (6) and its
+ * bias count (5); for each bias its signal (5) and the bias (14, two's complement, in 0.01 m). Record i is satellites[i],
+ * signals[i], biases[i]. The records come in the order of the stream; later places of the lists stay as they are. Lists
+ * of PV_1059_READ_MAX (422) always suffice, and longer ones are accepted.
+ *
+ * A reserved signal is kept as its number with its bias: a signal that is read need not be one that can be written.
+ *
+ * Refuses, in this order: PV_SIZE (data above 1,023 bytes, or lists of unequal length), PV_SHORT (carries the bit where
+ * the first field that does not fit starts), PV_ROOM (more records in the block than places in the lists; carries how
+ * many records there are). The whole block is read first, so PV_SHORT wins over PV_ROOM.
+ * Answers: [PV_AT_READ_RECORDS] the number of records; [PV_AT_READ_END] the bit behind the block.
+ */
+uint32_t pv_1059_read(const uint8_t *data, size_t data_len, size_t start, uint8_t *satellites, size_t satellites_len,
+                      uint8_t *signals, size_t signals_len, int16_t *biases, size_t biases_len,
+                      uint64_t *extra, size_t extra_len);
+
+/*
+ * Writes the block of at most 1,953 records, in any order, from bit `start` of the data on. Bits outside the block stay
+ * as they are. Satellites go out ascending, the records of one satellite in the order of the list, the same signal twice
+ * included. Signals: 0 1C, 1 1P, 2 1W, 5 2C, 6 2D, 7 2S, 8 2L, 9 2X, 10 2P, 11 2W, 14 5I, 15 5Q; the rest are reserved.
+ *
+ * Refuses, in this order: PV_SIZE (data above 1,023 bytes, lists of unequal length or above 1,953); then the first faulty
+ * record and, for it, PV_SATELLITE (above 63), PV_SIGNAL (reserved), PV_RANGE (bias outside -8192 to 8191), each
+ * carrying its index; PV_TOO_MANY (over 31 biases of one satellite: carries the lowest such satellite; else 64 different
+ * satellites: carries 64); PV_ROOM (the block reaches past the data; carries the bits of the whole block). An empty list
+ * is a block of 6 bits.
+ * Answers: [PV_AT_WRITTEN_END] the bit behind the block.
+ */
+uint32_t pv_1059_write(uint8_t *data, size_t data_len, size_t start, const uint8_t *satellites, size_t satellites_len,
+                       const uint8_t *signals, size_t signals_len, const int16_t *biases, size_t biases_len,
+                       uint64_t *extra, size_t extra_len);
+
+/* A raw 1059 bias in metres: the number as a float times 0.01f, rounded once. */
+float pv_1059_metres(int16_t raw);
+
+/* ---- The bias block of message 1230 (GLONASS code-phase biases). ---- */
+
+/*
+ * Reads a block from bit `start` of the data on: a mask (4 bits, from the top 1C, 1P, 2C, 2P), then 16 bits two's
+ * complement in 0.02 m for each set bit. A record's signal is its number in the table of PV_GLO: 2, 3, 8 or 9, and not
+ * its place in the mask. Records come in mask order; later places of the lists stay as they are.
+ *
+ * Refuses, in this order: PV_SIZE (data above 1,023 bytes, or lists of unequal length), PV_SHORT (carries the bit where
+ * the first field that does not fit starts), PV_ROOM (carries how many records there are).
+ * Answers: [PV_AT_READ_RECORDS] the number of records, 0 to 4; [PV_AT_READ_END] the bit behind the block.
+ */
+uint32_t pv_1230_read(const uint8_t *data, size_t data_len, size_t start, uint8_t *signals, size_t signals_len,
+                      int16_t *biases, size_t biases_len, uint64_t *extra, size_t extra_len);
+
+/*
+ * Writes the block of at most 4 records from bit `start` of the data on, in mask order whatever order the list has. Bits
+ * outside the block stay as they are.
+ *
+ * Refuses, in this order: PV_SIZE (data above 1,023 bytes, lists of unequal length or above 4), PV_SIGNAL (the first
+ * signal other than 2, 3, 8, 9; carries its index), PV_DUPLICATE (carries the index of the first record that repeats an
+ * earlier signal), PV_ROOM (the block reaches past the data; carries the bits of the whole block). An empty list is a
+ * block of 4 bits.
+ * Answers: [PV_AT_WRITTEN_END] the bit behind the block.
+ */
+uint32_t pv_1230_write(uint8_t *data, size_t data_len, size_t start, const uint8_t *signals, size_t signals_len,
+                       const int16_t *biases, size_t biases_len, uint64_t *extra, size_t extra_len);
+
+/* A raw 1230 bias in metres: the number as a float times 0.02f, rounded once. Its unit is not that of 1059. */
+float pv_1230_metres(int16_t raw);
+
+/* ---- Signal tables. ---- */
+
+/* The systems. Any other number is a system with an empty table. */
+#define PV_GPS 0u
+#define PV_GLO 1u
+#define PV_GAL 2u
+#define PV_SBAS 3u
+#define PV_QZSS 4u
+#define PV_BDS 5u
+#define PV_NAVIC 6u
+
+/*
+ * The signal that a number stands for in a system's table. These are the signal numbers of the MSM messages and of 1230;
+ * 1059 numbers its signals otherwise. Refuses nothing but a wrong extra_len.
+ * Answers: [PV_AT_SIGNAL_FOUND] 1 if it is in the table, else 0; [PV_AT_SIGNAL_BAND]; [PV_AT_SIGNAL_LETTER].
+ */
+uint32_t pv_signal_of(uint32_t system, uint32_t number, uint64_t *extra, size_t extra_len);
+
+/*
+ * The number of a signal in a system's table, as in PV_GPS, 1, 'C'. A band or a letter above 255 is in no table. Refuses
+ * nothing but a wrong extra_len.
+ * Answers: [PV_AT_NUMBER_FOUND] 1 if it is in the table, else 0; [PV_AT_NUMBER] the number.
+ */
+uint32_t pv_number_of(uint32_t system, uint32_t band, uint32_t letter, uint64_t *extra, size_t extra_len);
+
+/*
+ * How signal a stands to signal b in the order of a system: those in the table by number, before all others; the others
+ * by band and then by letter, each compared as a number, also above 255. Refuses nothing but a wrong extra_len.
+ * Answers: [PV_AT_ORDER], as int64_t, -1 if a comes first, 0 if they are the same, 1 if b comes first.
+ */
+uint32_t pv_signal_order(uint32_t system, uint32_t band_a, uint32_t letter_a, uint32_t band_b, uint32_t letter_b,
+                         uint64_t *extra, size_t extra_len);
+
+/* ---- A scanner that keeps its held bytes and their count together. ---- */
+
+struct pv_scanner {
+    uint8_t held[PV_HELD_SIZE];
+    size_t held_count;
+};
+
+/* What an accepted call of pv_scanner_feed answers. */
+struct pv_fed {
+    int is_frame;     /* 1: a frame is at the start of the output. 0: more bytes are needed. */
+    size_t taken;     /* Bytes of the piece taken: the next call gets piece + taken. */
+    size_t skipped;   /* Bytes skipped in this call, held ones included. */
+    size_t frame_len; /* Bytes of the frame, or 0. */
+};
+
+/* Initialises a scanner where it is defined: struct pv_scanner s = PV_SCANNER_FRESH; */
+#define PV_SCANNER_FRESH { { 0 }, 0 }
+
+/* Makes a fresh scanner in memory that may hold anything. */
+static inline void pv_scanner_init(struct pv_scanner *scanner)
+{
+    size_t i;
+    for (i = 0; i < PV_HELD_SIZE; i++)
+        scanner->held[i] = 0;
+    scanner->held_count = 0;
+}
+
+/* Forgets the held bytes, as after a lost connection: what comes next is the start of another stream. */
+static inline void pv_scanner_reset(struct pv_scanner *scanner)
+{
+    scanner->held_count = 0;
+}
+
+/*
+ * pv_feed on a scanner: the same answers and refusals, in the same order. The scanner and *fed change only where 0 is
+ * returned. The piece and the output must not lie in the scanner or overlap each other.
+ */
+static inline uint32_t pv_scanner_feed(struct pv_scanner *scanner, const uint8_t *piece, size_t piece_len,
+                                       uint8_t *out, size_t out_len, struct pv_fed *fed)
+{
+    uint64_t extra[PV_EXTRA_SIZE];
+    uint32_t refusal = pv_feed(scanner->held, PV_HELD_SIZE, scanner->held_count, piece, piece_len, out, out_len,
+                               extra, PV_EXTRA_SIZE);
+    if (refusal != PV_ACCEPTED)
+        return refusal;
+    scanner->held_count = extra[PV_AT_FED_HELD_COUNT];
+    fed->is_frame = extra[PV_AT_FED_IS_FRAME] == PV_FRAME;
+    fed->taken = extra[PV_AT_FED_TAKEN];
+    fed->skipped = extra[PV_AT_FED_SKIPPED];
+    fed->frame_len = extra[PV_AT_FED_FRAME_LENGTH];
+    return PV_ACCEPTED;
+}
+
+#ifdef __cplusplus
+}
+#endif
+
+#endif
