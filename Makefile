@@ -4,7 +4,7 @@
 #   make install PREFIX=..   archive, shared object, header and pkg-config file
 #   make check               the C tests: plain, under sanitizers, and under valgrind where it is there
 #   make relay               the example relay, build/../opt/relay
-#   make bench               the benchmark against a plain C program
+#   make bench               the benchmark against a plain C program, and against the Rust where it is there
 #   make differential        the runs against the Rust, where its source and cargo are there
 #   make lint                clang and cppcheck over the C files, where they are there
 #   make clean
@@ -17,7 +17,6 @@ SONAME := libpeerivolt.so.0
 PREFIX ?= /usr/local
 RT ?= rt
 RUST_SOURCE ?= ../shared/docs/src
-RUST_TIMES ?= build/rust-times.tsv
 LIB ?= peerivolt
 
 STD := -std=c11
@@ -35,7 +34,7 @@ recording = $(firstword $(filter %/$(1),$(RECORDINGS)))
 
 RATTLE_FILES := crates.txt $(shell find crates -name must-fail -prune -o -type f \( -name '*.rt' -o -name '*.antt' \) -print)
 
-.PHONY: all install check relay bench differential lint clean
+.PHONY: all install check relay bench bench-run differential lint clean
 .PHONY: check-header check-opt check-san check-valgrind check-cpp check-exports check-relay check-install
 
 all: libpeerivolt.a libpeerivolt.so
@@ -89,6 +88,10 @@ $(B)/opt/%_table.o: c/%.c Makefile
 	@mkdir -p $(@D)
 	$(CC) $(COMPILE) -O2 $(CFLAGS) -DPLAIN_TABLE -c $< -o $@
 
+$(B)/opt/%_linked.o: c/%.c Makefile
+	@mkdir -p $(@D)
+	$(CC) $(COMPILE) -O2 $(CFLAGS) -DWITH_RUST -Idifferential/rtcm/c -c $< -o $@
+
 $(B)/san/%.o: c/%.c Makefile
 	@mkdir -p $(@D)
 	$(CC) $(COMPILE) -O1 $(SANITIZE) $(CFLAGS) $(STAND_IN_FLAG) -c $< -o $@
@@ -123,8 +126,15 @@ $(PROGRAMS:%=$(B)/san/%): $(B)/san/%: $(B)/san/%.o $(B)/san/reference.o $(SAN_AR
 $(B)/opt/test_calls_shared: $(B)/opt/test_calls.o $(SHARED)
 	$(CC) $(LDFLAGS) $^ -Wl,-rpath,$(abspath $(dir $(SHARED))) -o $@
 
-$(B)/opt/bench: $(B)/opt/bench.o $(B)/opt/plain.o $(B)/opt/plain_table.o $(B)/opt/reference.o $(ARCHIVE)
+# The benchmark, alone and with the Rust, whose archive RUST_ARCHIVE names.
+BENCH := $(B)/opt/bench$(if $(RUST_ARCHIVE),_rust)
+BENCH_OBJECTS := $(patsubst %,$(B)/opt/%.o,bench bench_rows plain plain_table)
+
+$(B)/opt/bench: $(BENCH_OBJECTS) $(B)/opt/bench_rust.o $(ARCHIVE)
 	$(CC) $(LDFLAGS) $^ -o $@
+
+$(B)/opt/bench_rust: $(BENCH_OBJECTS) $(B)/opt/bench_rust_linked.o $(ARCHIVE) $(RUST_ARCHIVE)
+	$(CC) $(LDFLAGS) $^ -lpthread -ldl -lm -o $@
 
 $(HELPERS:%=$(B)/opt/%): $(B)/opt/%: $(B)/opt/%.o $(B)/opt/reference.o
 	$(CC) $(LDFLAGS) $^ -o $@
@@ -214,19 +224,19 @@ install: $(ARCHIVE) $(SHARED)
 
 # ---- Other runs.
 
-bench: $(B)/opt/bench
-	$(B)/opt/bench $(wildcard $(RUST_TIMES))
+# The archive of the Rust is built where it can be; else run.sh says why not, and the column of the Rust stays empty.
+bench: $(ARCHIVE)
+	@said=$$(RTCM_RS_SOURCE="$(RUST_SOURCE)" differential/run.sh rust-archive) || said="bench: the Rust could not be built"; \
+	case "$$said" in \
+	    *.a) $(MAKE) --no-print-directory bench-run RUST_ARCHIVE="$$said" ;; \
+	    *) echo "$$said"; $(MAKE) --no-print-directory bench-run ;; \
+	esac
 
-differential:
-	@if [ ! -x differential/run.sh ]; then \
-	    echo "differential: SKIPPED, since differential/run.sh is not here"; \
-	elif ! command -v cargo >/dev/null; then \
-	    echo "differential: SKIPPED, since cargo is not here"; \
-	elif [ ! -d "$(RUST_SOURCE)" ]; then \
-	    echo "differential: SKIPPED, since the Rust source is not at $(RUST_SOURCE) (name it: make differential RUST_SOURCE=..)"; \
-	else \
-	    $(MAKE) --no-print-directory libpeerivolt.a && RUST_SOURCE="$(RUST_SOURCE)" differential/run.sh; \
-	fi
+bench-run: $(BENCH)
+	$(BENCH)
+
+differential: libpeerivolt.a
+	RTCM_RS_SOURCE="$(RUST_SOURCE)" PEERIVOLT_ARCHIVE="$(CURDIR)/libpeerivolt.a" differential/run.sh
 
 lint:
 	@if command -v clang >/dev/null; then \
