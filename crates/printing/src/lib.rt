@@ -1,0 +1,87 @@
+// Text that is gathered in a lent area and written to standard output in large pieces.
+//
+// The first `at` bytes of the area wait to be written. Where more do not fit behind them they are written first, so that
+// no byte is lost. `specs/` says what each function leaves in the area.
+ghost use mathlib.Core.Path.{_≡_};
+ghost use Prim.Native.Nat.{_+_, _≤_, min};
+ghost use lib.ListN.{length};
+ghost use lib.Dec.{leb};
+ghost use Rattle.bits.specs.Onto.{over};
+ghost use Rattle.printing.specs.Gathered.{gathered, add, blank};
+
+mod number;
+
+pub use number::Amount;
+pub use number::amount_of;
+pub use number::hundredths;
+pub use number::signed;
+pub use number::unsigned;
+
+// Adds the text.
+pub fn text(out: &mut [u8; 65536], at: &mut usize, words: &[u8])
+    ensures { λ _. ⌜ gathered (now (out .exit)) (now (at .exit)) ≡ add (now (words .entry)) (gathered (now (out .entry)) (now (at .entry))) ⌝ }
+{
+    let n = words.len();
+    let waiting = *at;
+    if has_room(waiting, n) {
+        put_at(words, out, waiting);
+        *at = waiting + n;
+        return;
+    }
+    flush(out, at);
+    if has_room(0, n) {
+        put_at(words, out, 0);
+        *at = n;
+        return;
+    }
+    io::write_all(1, words);
+}
+
+// Adds so many blanks, at most 64.
+pub fn blanks(out: &mut [u8; 65536], at: &mut usize, n: usize)
+    ensures { λ _. ⌜ gathered (now (out .exit)) (now (at .exit)) ≡ add (blank n) (gathered (now (out .entry)) (now (at .entry))) ⌝ }
+{
+    let line = [b' '; 64];
+    text(out, at, &line[0..least(n, 64)]);
+}
+
+// Writes what waits.
+pub fn flush(out: &[u8; 65536], at: &mut usize)
+    ensures { λ _. ⌜ now (at .exit) ≡ 0 ⌝ }
+{
+    write_first(out, *at);
+    *at = 0;
+}
+
+// Writes the first n bytes, or all if there are fewer.
+fn write_first(out: &[u8], n: usize) {
+    io::write_all(1, &out[0..least(n, out.len())]);
+}
+
+// Whether n bytes fit behind those that wait.
+fn has_room(waiting: usize, n: usize) -> bool
+    ensures { λ r. ⌜ r ≡ leb (waiting + n) 65536 ⌝ }
+{
+    if 65536 < waiting {
+        return false;
+    }
+    if n <= 65536 - waiting { true } else { false }
+}
+
+// Writes the part over the output from byte i on.
+fn put_at(part: &[u8], out: &mut [u8], i: usize)
+    requires { ⌜ i + length (now part) ≤ length (now out) ⌝ }
+    ensures { λ _. ⌜ now (out .exit) ≡ over i (now (part .entry)) (now (out .entry)) ⌝ }
+{
+    let mut k: usize = 0;
+    while k < part.len() {
+        out[i + k] = part[k];
+        k += 1;
+    }
+}
+
+fn least(a: usize, b: usize) -> usize
+    ensures { λ r. ⌜ r ≡ min a b ⌝ }
+{
+    if a < b { a } else { b }
+}

@@ -1,0 +1,159 @@
+// Frames of a recording, which is a file or standard input and is read in pieces, with an account of every byte.
+ghost use Prim.Native.Nat.{_+_, _-_, _≤_};
+ghost use mathlib.Core.Path.{_≡_};
+ghost use lib.ListN.{length};
+ghost use Rattle.reading.specs.Account.{Right, AllTaken, RightStep};
+use frames::scanner;
+use frames::scanner::Fed;
+use std::num;
+
+// How far a recording is read. Each byte is in a frame, skipped, held, or in the part of the piece from `from` to `to`,
+// which is not taken yet. Sums go round at 2^64.
+pub struct Account {
+    pub bytes: u64,
+    pub frames: u64,
+    pub framed: u64,
+    pub skipped: u64,
+    pub held: usize,
+    pub from: usize,
+    pub to: usize,
+}
+
+// What a step comes to.
+pub enum Step {
+    // A frame, at the front of the area for it, with its place in the recording.
+    Frame {
+        place: u64,
+        length: usize,
+        account: Account,
+    },
+    // A new piece.
+    Piece(Account),
+    // The recording is at its end.
+    End(Account),
+    // The recording cannot be read on.
+    Failed(Account),
+}
+
+// The account before anything is read.
+pub fn start() -> Account
+    ensures { λ r. ⌜ AllTaken r ⌝ }
+{
+    Account {
+        bytes: 0,
+        frames: 0,
+        framed: 0,
+        skipped: 0,
+        held: 0,
+        from: 0,
+        to: 0,
+    }
+}
+
+// Hands out the next frame of the piece, or reads the next piece where there is none.
+pub fn next(
+    fd: i32,
+    held: &mut [u8; 1029],
+    piece: &mut [u8; 65536],
+    frame: &mut [u8; 1029],
+    account: Account,
+) -> Step
+    ensures { λ r. ⌜ (Right account → RightStep r) ⌝ }
+{
+    let count = account.held;
+    let rest = part(piece, account.from, account.to);
+    match scanner::feed(held, count, rest, frame) {
+        Fed::Frame {
+            length,
+            taken,
+            skipped,
+            held: n,
+        } => framed(account, length, taken, skipped, n),
+        Fed::More {
+            taken: _,
+            skipped,
+            held: n,
+        } => refill(fd, piece, passed(account, skipped, n)),
+        _ => Step::Failed(account),
+    }
+}
+
+// The bytes from one place to another, where they are there.
+fn part(bytes: &[u8], from: usize, to: usize) -> &[u8]
+    ensures { λ r. ⌜ (from ≤ to → to ≤ length (now (bytes .entry)) → length (now r) ≡ to - from) ⌝ }
+{
+    if to < from {
+        return &bytes[0..0];
+    }
+    if bytes.len() < to {
+        return &bytes[0..0];
+    }
+    &bytes[from..to]
+}
+
+// Reads the next piece.
+fn refill(fd: i32, piece: &mut [u8], account: Account) -> Step
+    ensures { λ r. ⌜ (AllTaken account → length (now (piece .entry)) ≤ 65536 → RightStep r) ⌝ }
+{
+    let got = libc::read(fd, piece);
+    if got < 0 {
+        return Step::Failed(account);
+    }
+    let n = io::count(got, piece);
+    if n == 0 {
+        return Step::End(account);
+    }
+    Step::Piece(grown(account, n))
+}
+
+// A frame is handed out. Before it are the bytes in frames and the skipped ones.
+fn framed(a: Account, length: usize, taken: usize, skipped: usize, held: usize) -> Step
+    ensures { λ r. ⌜ (Right a → taken ≤ a .to - a .from → a .held + taken ≡ skipped + length + held → held ≤ 1029 → RightStep r) ⌝ }
+{
+    let all = num::wrapping_add_u64(a.skipped, skipped as u64);
+    let place = num::wrapping_add_u64(a.framed, all);
+    let account = Account {
+        bytes: a.bytes,
+        frames: num::wrapping_add_u64(a.frames, 1),
+        framed: num::wrapping_add_u64(a.framed, length as u64),
+        skipped: all,
+        held,
+        from: num::wrapping_add_usize(a.from, taken),
+        to: a.to,
+    };
+    Step::Frame {
+        place,
+        length,
+        account,
+    }
+}
+
+// The whole piece is taken.
+fn passed(a: Account, skipped: usize, held: usize) -> Account
+    ensures { λ r. ⌜ (Right a → a .held + (a .to - a .from) ≡ skipped + held → held ≤ 1029 → AllTaken r) ⌝ }
+{
+    Account {
+        bytes: a.bytes,
+        frames: a.frames,
+        framed: a.framed,
+        skipped: num::wrapping_add_u64(a.skipped, skipped as u64),
+        held,
+        from: 0,
+        to: 0,
+    }
+}
+
+// A piece of n bytes is read.
+fn grown(a: Account, n: usize) -> Account
+    ensures { λ r. ⌜ (AllTaken a → n ≤ 65536 → Right r) ⌝ }
+{
+    Account {
+        bytes: num::wrapping_add_u64(a.bytes, n as u64),
+        frames: a.frames,
+        framed: a.framed,
+        skipped: a.skipped,
+        held: a.held,
+        from: 0,
+        to: n,
+    }
+}

@@ -1,0 +1,24 @@
+// Replays recorded answers: each line of answers.hex holds an input, and what was answered to it.
+//
+// Each input is put to the library, what it answers is laid out as the record lays out its own, and the two are compared.
+mod answer;
+mod biases;
+mod fields;
+mod framing;
+mod judge;
+mod lines;
+mod record;
+mod tables;
+mod tally;
+
+fn main() {
+    let fd = os::open_read(b"answers.hex");
+    if fd < 0 {
+        os::fail(b"answers.hex");
+        return;
+    }
+    let mut counts = [0u64; 38];
+    lines::replay(fd, &mut counts);
+    libc::close(fd);
+    tally::print(&counts);
+}

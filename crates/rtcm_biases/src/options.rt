@@ -1,0 +1,202 @@
+// What the arguments ask for, and what is said to the user.
+use check::same;
+use libc::STDERR_FILENO;
+use libc::STDOUT_FILENO;
+use reading::Account;
+
+// What an argument is. An option begins with `-`; `-` alone is standard input; the word behind `--start` is its number.
+pub enum Kind {
+    Help,
+    Start,
+    Number,
+    Unknown,
+    Input,
+    File,
+}
+
+// Where a block starts: at its usual data bit, or at the one that is asked for.
+pub enum Start {
+    Usual,
+    Bit(usize),
+    // No number.
+    Wrong,
+}
+
+// What all the arguments ask for: `unknown` is the place of an option that is not known, and `file` that of a recording,
+// or 0; `wrong` says that the last --start has no number.
+pub struct Asked {
+    pub help: bool,
+    pub unknown: usize,
+    pub wrong: bool,
+    pub file: usize,
+}
+
+pub fn all() -> Asked {
+    let mut help = false;
+    let mut unknown: usize = 0;
+    let mut wrong = false;
+    let mut file: usize = 0;
+    let count = os::arg_count();
+    let mut i: usize = 1;
+    while i < count {
+        match kind_at(i) {
+            Kind::Help => {
+                help = true;
+            }
+            Kind::Start => {
+                wrong = true;
+            }
+            Kind::Number => {
+                wrong = is_wrong(start_at(i));
+            }
+            Kind::Unknown => {
+                unknown = i;
+            }
+            _ => {
+                file = i;
+            }
+        }
+        i += 1;
+    }
+    Asked {
+        help,
+        unknown,
+        wrong,
+        file,
+    }
+}
+
+fn is_wrong(start: Start) -> bool {
+    match start {
+        Start::Wrong => true,
+        _ => false,
+    }
+}
+
+// What argument i is.
+pub fn kind_at(i: usize) -> Kind {
+    if 1 < i {
+        if is_start(i - 1) {
+            return Kind::Number;
+        }
+    }
+    let mut word = io::buffer();
+    let n = os::arg(i, &mut word);
+    kind_of(&word[..n])
+}
+
+fn is_start(i: usize) -> bool {
+    let mut word = io::buffer();
+    let n = os::arg(i, &mut word);
+    same(&word[..n], b"--start")
+}
+
+fn kind_of(word: &[u8]) -> Kind {
+    if same(word, b"--help") {
+        return Kind::Help;
+    }
+    if same(word, b"--start") {
+        return Kind::Start;
+    }
+    if same(word, b"-") {
+        return Kind::Input;
+    }
+    if begins_with_dash(word) {
+        return Kind::Unknown;
+    }
+    Kind::File
+}
+
+fn begins_with_dash(word: &[u8]) -> bool {
+    if word.len() == 0 {
+        return false;
+    }
+    word[0] == b'-'
+}
+
+// The data bit that argument i names.
+pub fn start_at(i: usize) -> Start {
+    let mut word = io::buffer();
+    let n = os::arg(i, &mut word);
+    number(&word[..n])
+}
+
+// The number that the digits make, if there are one to six.
+fn number(digits: &[u8]) -> Start {
+    if digits.len() == 0 {
+        return Start::Wrong;
+    }
+    let mut bit: usize = 0;
+    let mut i: usize = 0;
+    while i < digits.len() {
+        let d = digits[i];
+        if d < b'0' {
+            return Start::Wrong;
+        }
+        if b'9' < d {
+            return Start::Wrong;
+        }
+        if 99_999 < bit {
+            return Start::Wrong;
+        }
+        bit = bit * 10 + (d - b'0') as usize;
+        i += 1;
+    }
+    Start::Bit(bit)
+}
+
+// The data bit at which a block starts.
+pub fn bit(start: Start, usual: usize) -> usize {
+    match start {
+        Start::Bit(bit) => bit,
+        _ => usual,
+    }
+}
+
+pub fn help() {
+    io::write_all(
+        STDOUT_FILENO,
+        b"rtcm_biases [--start N] FILE..
+
+Shows the biases in the RTCM 3 messages 1059 (GPS) and 1230 (GLONASS) of each file (- is standard
+input): a table for each message, with the raw numbers and the metres that they stand for.
+A signal number that is reserved stands in brackets.
+
+  --start N  in the files behind it blocks start at data bit N, and not at 61 (1059) or 28 (1230)
+  --help     this text
+",
+    );
+}
+
+pub fn unknown(i: usize) {
+    let mut word = io::buffer();
+    let n = os::arg(i, &mut word);
+    io::write_all(STDERR_FILENO, b"rtcm_biases: no such option: ");
+    io::write_all(STDERR_FILENO, &word[..n]);
+    io::write_all(
+        STDERR_FILENO,
+        b" (rtcm_biases --help lists them; a file is named with ./ before its dash)\n",
+    );
+}
+
+pub fn wrong_start() {
+    io::write_all(
+        STDERR_FILENO,
+        b"rtcm_biases: --start takes the number of a data bit, as --start 61; rtcm_biases --help says more\n",
+    );
+}
+
+pub fn no_file() {
+    io::write_all(
+        STDERR_FILENO,
+        b"rtcm_biases: name a file, or - for standard input; rtcm_biases --help says more\n",
+    );
+}
+
+// Says so if nothing was there to read.
+pub fn empty(name: &[u8], account: Account) {
+    if account.bytes == 0 {
+        io::write_all(STDERR_FILENO, name);
+        io::write_all(STDERR_FILENO, b": is empty\n");
+    }
+}

@@ -1,0 +1,216 @@
+// The table of one block.
+use messages::answer::BlockRead;
+use messages::block1059;
+use messages::block1230;
+use messages::signals;
+use messages::signals::SignalFound;
+use messages::signals1059;
+use printing::Amount;
+use printing::text;
+use printing::unsigned;
+use reading::Account;
+use std::num;
+
+// How many blocks were read, and how many refused.
+pub struct Tally {
+    pub read: u64,
+    pub refused: u64,
+}
+
+// Before the first piece: the name.
+pub fn opening(name: &[u8], account: Account, out: &mut [u8; 65536], at: &mut usize) {
+    if account.bytes != 0 {
+        return;
+    }
+    text(out, at, name);
+    text(out, at, b"\n");
+}
+
+// The block of message `number`, 1059 or 1230, from data bit `start` on.
+pub fn block(
+    number: u16,
+    data: &[u8],
+    place: u64,
+    start: usize,
+    tally: Tally,
+    out: &mut [u8; 65536],
+    at: &mut usize,
+) -> Tally {
+    let mut satellites = [0u8; 422];
+    let mut signals = [0u8; 422];
+    let mut biases = [0i16; 422];
+    let answer = read(
+        number,
+        data,
+        start,
+        &mut satellites,
+        &mut signals,
+        &mut biases,
+    );
+    heading(number, place, answer, out, at);
+    let BlockRead::Records { count, end } = answer else {
+        return one_refused(tally);
+    };
+    rows(number, &satellites, &signals, &biases, count, out, at);
+    left_over(data.len(), end, out, at);
+    one_read(tally)
+}
+
+// The records of 1230 have no satellite.
+fn read(
+    number: u16,
+    data: &[u8],
+    start: usize,
+    satellites: &mut [u8; 422],
+    signals: &mut [u8; 422],
+    biases: &mut [i16; 422],
+) -> BlockRead {
+    if number == 1059 {
+        return block1059::read(data, start, satellites, signals, biases);
+    }
+    block1230::read(data, start, signals, biases)
+}
+
+// The head of a block: its place, and how many records it has or why it is refused.
+fn heading(number: u16, place: u64, answer: BlockRead, out: &mut [u8; 65536], at: &mut usize) {
+    text(out, at, b"  message ");
+    unsigned(out, at, number as u64, 0);
+    text(out, at, b" at byte ");
+    unsigned(out, at, place, 0);
+    match answer {
+        BlockRead::Records { count, end: _ } => told(b": ", count, b" biases\n", out, at),
+        BlockRead::Size => text(out, at, b": refused, Size\n"),
+        BlockRead::Short(bit) => told(b": refused, Short at data bit ", bit, b"\n", out, at),
+        BlockRead::Room(count) => told(b": refused, Room for ", count, b" records\n", out, at),
+    }
+}
+
+fn told(before: &[u8], n: usize, behind: &[u8], out: &mut [u8; 65536], at: &mut usize) {
+    text(out, at, before);
+    unsigned(out, at, n as u64, 0);
+    text(out, at, behind);
+}
+
+// The rows of the first `count` records, under the heads of their columns.
+fn rows(
+    number: u16,
+    satellites: &[u8; 422],
+    signals: &[u8; 422],
+    biases: &[i16; 422],
+    count: usize,
+    out: &mut [u8; 65536],
+    at: &mut usize,
+) {
+    text(out, at, b"    satellite  signal       raw    metres\n");
+    let mut i: usize = 0;
+    while i < 422 {
+        if count <= i {
+            return;
+        }
+        satellite(number, satellites[i], out, at);
+        name(signal_of(number, signals[i]), signals[i], out, at);
+        values(number, amount(biases[i]), out, at);
+        i += 1;
+    }
+}
+
+fn satellite(number: u16, satellite: u8, out: &mut [u8; 65536], at: &mut usize) {
+    if number == 1059 {
+        unsigned(out, at, satellite as u64, 13);
+        return;
+    }
+    text(out, at, b"            -");
+}
+
+// The signal of a record: message 1059 has a table of its own, 1230 that of GLONASS.
+fn signal_of(number: u16, signal: u8) -> SignalFound {
+    if number == 1059 {
+        return signals1059::signal_of_1059(1, signal as u32);
+    }
+    signals::signal_of(1, signal as u32)
+}
+
+fn amount(bias: i16) -> Amount {
+    printing::amount_of(bias as i64)
+}
+
+// The name of a signal: its band and its letter, or its number in brackets.
+fn name(found: SignalFound, number: u8, out: &mut [u8; 65536], at: &mut usize) {
+    match found {
+        SignalFound::At(band, letter) => {
+            unsigned(out, at, band as u64, 7);
+            text(out, at, &[letter]);
+        }
+        SignalFound::None => {
+            bracket(number, out, at);
+        }
+    }
+}
+
+fn bracket(number: u8, out: &mut [u8; 65536], at: &mut usize) {
+    if number < 10 {
+        text(out, at, b" ");
+    }
+    text(out, at, b"    (");
+    unsigned(out, at, number as u64, 0);
+    text(out, at, b")");
+}
+
+// The raw number and the metres of a row.
+fn values(number: u16, raw: Amount, out: &mut [u8; 65536], at: &mut usize) {
+    printing::signed(out, at, raw, 10);
+    printing::hundredths(out, at, hundredths_of(number, raw), 10);
+    text(out, at, b"\n");
+}
+
+// A bias of 1059 is in 0.01 m, one of 1230 in 0.02 m.
+fn hundredths_of(number: u16, raw: Amount) -> Amount {
+    if number == 1059 {
+        return raw;
+    }
+    Amount {
+        negative: raw.negative,
+        size: num::wrapping_add_u64(raw.size, raw.size),
+    }
+}
+
+// How many bits of the data are left behind the block.
+fn left_over(bytes: usize, end: usize, out: &mut [u8; 65536], at: &mut usize) {
+    if bytes <= 1023 {
+        if end <= bytes * 8 {
+            told(
+                b"    ",
+                bytes * 8 - end,
+                b" bits left over behind the block\n",
+                out,
+                at,
+            );
+        }
+    }
+}
+
+// Behind the last block, if anything was read: how many were read and refused.
+pub fn closing(account: Account, tally: Tally, out: &mut [u8; 65536], at: &mut usize) {
+    if account.bytes == 0 {
+        return;
+    }
+    text(out, at, b"  ");
+    unsigned(out, at, tally.read, 0);
+    text(out, at, b" blocks read, ");
+    unsigned(out, at, tally.refused, 0);
+    text(out, at, b" refused\n\n");
+}
+
+fn one_read(tally: Tally) -> Tally {
+    Tally {
+        read: num::wrapping_add_u64(tally.read, 1),
+        refused: tally.refused,
+    }
+}
+
+fn one_refused(tally: Tally) -> Tally {
+    Tally {
+        read: tally.read,
+        refused: num::wrapping_add_u64(tally.refused, 1),
+    }
+}
