@@ -5,37 +5,44 @@ ghost use lib.ListN.{length};
 ghost use Rattle.bits.specs.Field.{field, putField};
 ghost use Rattle.bits.specs.Steps.{splice};
 
-// Reads a field, by one look at eight bytes where they are there.
+// Reads a field, by one look at eight bytes, or two where one does not show all of it.
 pub(crate) fn field_at(bytes: &[u8], start: usize, width: usize) -> u64
     requires { ⌜ (start + width ≤ length (now bytes) * 8) × (1 ≤ width) × (width ≤ 64) × (length (now bytes) ≤ 1023) ⌝ }
     ensures { λ r. ⌜ r ≡ field (now (bytes .entry)) start width ⌝ }
 {
-    let i = start / 8;
-    let o = start % 8;
-    if o + width <= 64 {
-        if i + 8 <= bytes.len() {
-            return (eight_at(bytes, i) << o) >> (64 - width);
-        }
+    if bytes.len() < 8 {
+        return field_by_bytes(bytes, start, width);
     }
-    field_by_bytes(bytes, start, width)
+    if width <= 57 {
+        return look(bytes, start, width);
+    }
+    let first = width - 32;
+    (look(bytes, start, first) << 32) + look(bytes, start + first, 32)
 }
 
-// Reads a field byte by byte.
+// Reads a field of at most 57 bits out of the eight bytes from its first byte on, or out of the last eight.
+fn look(bytes: &[u8], start: usize, width: usize) -> u64
+    requires { ⌜ (start + width ≤ length (now bytes) * 8) × (1 ≤ width) × (width ≤ 57) × (8 ≤ length (now bytes)) × (length (now bytes) ≤ 1023) ⌝ }
+    ensures { λ r. ⌜ r ≡ field (now (bytes .entry)) start width ⌝ }
+{
+    let i = least(start / 8, bytes.len() - 8);
+    (eight_at(bytes, i) << (start - i * 8)) >> (64 - width)
+}
+
+// Reads a field byte by byte: what its last byte has of it stands behind the rest. As it calls itself, no compiler
+// copies it into its callers, which keeps a field read small.
 fn field_by_bytes(bytes: &[u8], start: usize, width: usize) -> u64
     requires { ⌜ (start + width ≤ length (now bytes) * 8) × (width ≤ 64) × (length (now bytes) ≤ 1023) ⌝ }
     ensures { λ r. ⌜ r ≡ field (now (bytes .entry)) start width ⌝ }
 {
-    let mut v: u64 = 0;
-    let mut k: usize = 0;
-    while k < width {
-        let at = start + k;
-        let o = at % 8;
-        let m = least(8 - o, width - k);
-        let b = wide(bytes[at / 8]);
-        v = (v << m) + ((b << o) % 256 >> (8 - m));
-        k += m;
+    if width == 0 {
+        return 0;
     }
-    v
+    let last = start + width - 1;
+    let m = least(last % 8 + 1, width);
+    let at = start + (width - m);
+    let b = wide(bytes[at / 8]);
+    (field_by_bytes(bytes, start, width - m) << m) + ((b << (at % 8)) % 256 >> (8 - m))
 }
 
 // Writes the low `width` bits of a number from bit `start` on, byte by byte.

@@ -1,55 +1,68 @@
--- A field is cut out of the eight bytes around it, where they are there. Assumes nothing.
-use mathlib.Core.Path.{_≡_, sym, ap, _∙_}
-use Prim.Native.Nat.{ℕ, _+_, _-_, _*_, _/_, _%_, _^_}
+-- A field that one look does not show is its first bits and then its last 32. Assumes nothing.
+use mathlib.Core.Path.{_≡_, sym, ap, ap₂, _∙_}
+use mathlib.Core.List.{List}
+use Prim.Native.Nat.{ℕ, _+_, _-_, _*_, _%_, _^_, _≤_}
 use native.Mathlib.Omega.{arith}
+use lib.Pow.{shl-exact}
 use Rattle.bits.specs.Field.{field}
-use Rattle.bits.proofs.FieldLaws.{field-within}
+use Rattle.bits.proofs.FieldLaws.{field-split, field-lt, field-below}
 use borrow.Author.Needs.{needs}
 use Rattle.bits.proofs.raw.field_at.Statement.{statement}
 use Rattle.bits.proofs.raw.field_at.Tie as tie
 
-add-if1 : tie.Need-add-if1
-add-if1 c = search needs
-
-add-if2 : tie.Need-add-if2
-add-if2 c = search needs
-
-eight-at-requires : tie.Need-eight-at-requires
-eight-at-requires c κs = search needs
-
-shl-result : tie.Need-shl-result
-shl-result c = search needs
-
-sub-result : tie.Need-sub-result
-sub-result c = search needs
-
-shr-result : tie.Need-shr-result
-shr-result c = search needs
-
-returns : tie.Need-returns
-returns c =
-    let a = c .before .before .before .before .args in
-    let e : a .start / 8 * 8 + a .start % 8 ≡ a .start = omega arith in
-    ap (λ (x : ℕ). x * 2 ^ (a .start % 8) % 2 ^ 64 / 2 ^ (64 - a .width)) (c .eight-at .ensures)
-    ∙ sym (field-within (a .bytes .now) (a .start / 8 * 8) 64 (a .start % 8) (a .width) (omega arith))
-    ∙ ap (λ (x : ℕ). field (a .bytes .now) x (a .width)) e
-
 field-by-bytes-requires : tie.Need-field-by-bytes-requires
 field-by-bytes-requires c κs = search needs
 
+returns : tie.Need-returns
+returns c = search needs
+
+look-requires : tie.Need-look-requires
+look-requires c κs = search needs
+
 returns-2 : tie.Need-returns-2
 returns-2 c = search needs
+
+sub-first : tie.Need-sub-first
+sub-first c = search needs
+
+look-requires-2 : tie.Need-look-requires-2
+look-requires-2 c κs = search needs
+
+add-look : tie.Need-add-look
+add-look c = search needs
+
+look-requires-3 : tie.Need-look-requires-3
+look-requires-3 c κs = search needs
+
+-- the two looks put together, as 64-bit code shifts the first
+halves : (s : List ℕ) (p a x y : ℕ) → x ≡ field s p a → y ≡ field s (p + a) 32 → a ≤ 32 → x * 2 ^ 32 % 2 ^ 64 + y ≡ field s p (a + 32)
+halves s p a x y ex ey h =
+    ap₂ _+_ (ap (λ (n : ℕ). n * 2 ^ 32 % 2 ^ 64) ex ∙ shl-exact a 32 64 (field-lt s p a) (omega arith)) ey ∙ sym (field-split s p a 32)
+
+add-result : tie.Need-add-result
+add-result c =
+    let a = c .before .before .before .before .before .args in
+    let e = halves (a .bytes .now) (a .start) (a .width - 32) (c .before .look2 .result) (c .look3 .result) (c .before .look2 .ensures) (c .look3 .ensures) (omega arith) in
+    record { fits = rw e (field-below _ _ _ 64 (omega arith)) }
+
+returns-3 : tie.Need-returns-3
+returns-3 c =
+    let a = c .before .before .before .before .before .args in
+    let e : a .width - 32 + 32 ≡ a .width = omega arith in
+    halves (a .bytes .now) (a .start) (a .width - 32) (c .before .look2 .result) (c .look3 .result) (c .before .look2 .ensures) (c .look3 .ensures) (omega arith)
+    ∙ ap (field (a .bytes .now) (a .start)) e
 
 pub field-at-spec : {M : Type 1} → statement M
 field-at-spec =
     tie.close
     (tie.spec
-    add-if1
-    add-if2
-    eight-at-requires
-    shl-result
-    sub-result
-    shr-result
-    returns
     field-by-bytes-requires
-    returns-2)
+    returns
+    look-requires
+    returns-2
+    sub-first
+    look-requires-2
+    add-look
+    look-requires-3
+    add-result
+    returns-3)
