@@ -1,4 +1,4 @@
-// The number of a field that lies within the data, read and written a byte at a time at most.
+// The number of a field that lies within the data, read by a look at eight bytes and written byte by byte.
 ghost use mathlib.Core.Path.{_≡_};
 ghost use Prim.Native.Nat.{_+_, _*_, _%_, _^_, _≤_, _<_, min};
 ghost use lib.ListN.{length};
@@ -29,8 +29,8 @@ fn look(bytes: &[u8], start: usize, width: usize) -> u64
     (eight_at(bytes, i) << (start - i * 8)) >> (64 - width)
 }
 
-// Reads a field byte by byte: what its last byte has of it stands behind the rest. As it calls itself, no compiler
-// copies it into its callers, which keeps a field read small.
+// Reads a field byte by byte: what its last byte has of it stands behind the rest. As it calls itself, the compiler
+// does not copy it into its callers, and a field read stays small enough to be copied into its own.
 fn field_by_bytes(bytes: &[u8], start: usize, width: usize) -> u64
     requires { ⌜ (start + width ≤ length (now bytes) * 8) × (width ≤ 64) × (length (now bytes) ≤ 1023) ⌝ }
     ensures { λ r. ⌜ r ≡ field (now (bytes .entry)) start width ⌝ }
