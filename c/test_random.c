@@ -6,19 +6,10 @@
  */
 #include "test.h"
 
+#include "random.h"
 #include "reference.h"
 
 /* ---- Random numbers. ---- */
-
-static uint64_t state = 0x9E3779B97F4A7C15;
-
-static uint64_t random64(void)
-{
-    state ^= state << 13;
-    state ^= state >> 7;
-    state ^= state << 17;
-    return state * 0x2545F4914F6CDD1D;
-}
 
 /* A number from 0 to limit - 1. */
 static size_t below(size_t limit)

@@ -2,7 +2,8 @@
 use crate::crc_any::CRC;
 use crate::df::assembler::Assembler;
 use crate::df::bit_value::*;
-use crate::df::dfs::{df_msg1059_biases, df_msg1230_biases};
+use crate::df::dfs::df_msg1059_biases::{self, Msg1059CodeBias};
+use crate::df::dfs::df_msg1230_biases::{self, Msg1230CodePhaseBias};
 use crate::df::parser::Parser;
 use crate::message_frame::MessageFrame;
 use crate::msg::message::{Message, MessageBuilder};
@@ -11,7 +12,7 @@ use crate::raw_message::Raw;
 use crate::rtcm_error::RtcmError;
 use crate::scan_of_lib::{next_msg_frame, MsgFrameIter};
 use core::cmp::Ordering;
-use shapes::{Bias1059, Bias1230, FieldType, Frame, Reading, Refused, Scanned};
+use shapes::{Bias, Block, FieldType, Frame, Reading, Refused, Scanned};
 
 /// The records that the crate's 1059 vector holds.
 pub const CAPACITY_1059: usize = crate::msg::SAT_CAP_1059;
@@ -161,30 +162,54 @@ pub fn put(
     Ok(assembler.offset())
 }
 
-/// The 1059 block's `decode`: the records, and the offset afterwards, also where it refused.
+/// A block's `decode`: the records, and the offset afterwards, also where it refused.
 #[inline(never)]
-pub fn read_1059(data: &[u8], start: usize) -> (Result<Vec<Bias1059>, Refused>, usize) {
-    let mut parser = Parser::new(data, start);
-    let records = df_msg1059_biases::decode(&mut parser);
-    let plain = |record: &df_msg1059_biases::Msg1059CodeBias| Bias1059 {
+pub fn read_block(block: Block, data: &[u8], start: usize) -> (Result<Vec<Bias>, Refused>, usize) {
+    let of_1059 = |record: &Msg1059CodeBias| Bias {
         satellite: record.satellite_id,
         band: record.signal_id.band(),
         letter: record.signal_id.attribute(),
         metres: record.bias_m,
     };
-    let records = records.map(|records| records.iter().map(plain).collect());
+    let of_1230 = |record: &Msg1230CodePhaseBias| Bias {
+        satellite: 0,
+        band: record.signal_id.band(),
+        letter: record.signal_id.attribute(),
+        metres: record.bias_m,
+    };
+    let mut parser = Parser::new(data, start);
+    let records = match block {
+        Block::Msg1059 => df_msg1059_biases::decode(&mut parser)
+            .map(|records| records.iter().map(of_1059).collect()),
+        Block::Msg1230 => df_msg1230_biases::decode(&mut parser)
+            .map(|records| records.iter().map(of_1230).collect()),
+    };
     (records.map_err(refused), parser.offset())
 }
 
-/// The crate's own list of 1059 records.
+/// A block's `encode`: the offset afterwards.
+pub fn write_block(
+    block: Block,
+    data: &mut [u8],
+    start: usize,
+    records: &[Bias],
+) -> Result<usize, Refused> {
+    match block {
+        Block::Msg1059 => encode_1059(data, start, &list_1059(records)),
+        Block::Msg1230 => encode_1230(data, start, &list_1230(records)),
+    }
+}
+
+/// The crate's own lists of records.
 pub type List1059 = df_msg1059_biases::DataType;
+pub type List1230 = df_msg1230_biases::DataType;
 
 /// Records in the crate's own list.
 #[inline(never)]
-pub fn list_1059(records: &[Bias1059]) -> List1059 {
+pub fn list_1059(records: &[Bias]) -> List1059 {
     let mut list = List1059::new();
     for record in records {
-        list.push(df_msg1059_biases::Msg1059CodeBias {
+        list.push(Msg1059CodeBias {
             satellite_id: record.satellite,
             signal_id: GpsSigId::new(record.band, record.letter),
             bias_m: record.metres,
@@ -193,53 +218,12 @@ pub fn list_1059(records: &[Bias1059]) -> List1059 {
     list
 }
 
-/// The 1059 block's `encode`: the offset afterwards, also where it refused.
-pub fn write_1059(
-    data: &mut [u8],
-    start: usize,
-    records: &[Bias1059],
-) -> (Result<(), Refused>, usize) {
-    encode_1059(data, start, &list_1059(records))
-}
-
-/// The 1059 block's `encode` of the crate's own list: the offset afterwards, also where it refused.
-#[inline(never)]
-pub fn encode_1059(data: &mut [u8], start: usize, list: &List1059) -> (Result<(), Refused>, usize) {
-    let mut assembler = Assembler::new(data, start);
-    let answer = df_msg1059_biases::encode(&mut assembler, list);
-    (answer.map_err(refused), assembler.offset())
-}
-
-/// The 1059 block's `decode`, where only the number of records is wanted: 0 where it refused.
-#[inline(never)]
-pub fn count_1059(data: &[u8], start: usize) -> usize {
-    let mut parser = Parser::new(data, start);
-    df_msg1059_biases::decode(&mut parser).map_or(0, |list| list.len())
-}
-
-/// The 1230 block's `decode`: the records, and the offset afterwards, also where it refused.
-#[inline(never)]
-pub fn read_1230(data: &[u8], start: usize) -> (Result<Vec<Bias1230>, Refused>, usize) {
-    let mut parser = Parser::new(data, start);
-    let records = df_msg1230_biases::decode(&mut parser);
-    let plain = |record: &df_msg1230_biases::Msg1230CodePhaseBias| Bias1230 {
-        band: record.signal_id.band(),
-        letter: record.signal_id.attribute(),
-        metres: record.bias_m,
-    };
-    let records = records.map(|records| records.iter().map(plain).collect());
-    (records.map_err(refused), parser.offset())
-}
-
-/// The crate's own list of 1230 records.
-pub type List1230 = df_msg1230_biases::DataType;
-
 /// Records in the crate's own list.
 #[inline(never)]
-pub fn list_1230(records: &[Bias1230]) -> List1230 {
+pub fn list_1230(records: &[Bias]) -> List1230 {
     let mut list = List1230::new();
     for record in records {
-        list.push(df_msg1230_biases::Msg1230CodePhaseBias {
+        list.push(Msg1230CodePhaseBias {
             signal_id: GloSigId::new(record.band, record.letter),
             bias_m: record.metres,
         });
@@ -247,28 +231,32 @@ pub fn list_1230(records: &[Bias1230]) -> List1230 {
     list
 }
 
-/// The 1230 block's `encode`: the offset afterwards, also where it refused.
-pub fn write_1230(
-    data: &mut [u8],
-    start: usize,
-    records: &[Bias1230],
-) -> (Result<(), Refused>, usize) {
-    encode_1230(data, start, &list_1230(records))
+/// The 1059 block's `encode` of the crate's own list: the offset afterwards.
+#[inline(never)]
+pub fn encode_1059(data: &mut [u8], start: usize, list: &List1059) -> Result<usize, Refused> {
+    let mut assembler = Assembler::new(data, start);
+    df_msg1059_biases::encode(&mut assembler, list).map_err(refused)?;
+    Ok(assembler.offset())
 }
 
-/// The 1230 block's `encode` of the crate's own list: the offset afterwards, also where it refused.
+/// The 1230 block's `encode` of the crate's own list: the offset afterwards.
 #[inline(never)]
-pub fn encode_1230(data: &mut [u8], start: usize, list: &List1230) -> (Result<(), Refused>, usize) {
+pub fn encode_1230(data: &mut [u8], start: usize, list: &List1230) -> Result<usize, Refused> {
     let mut assembler = Assembler::new(data, start);
-    let answer = df_msg1230_biases::encode(&mut assembler, list);
-    (answer.map_err(refused), assembler.offset())
+    df_msg1230_biases::encode(&mut assembler, list).map_err(refused)?;
+    Ok(assembler.offset())
+}
+
+/// The 1059 block's `decode`, where only the number of records is wanted: 0 where it refused.
+#[inline(never)]
+pub fn count_1059(data: &[u8], start: usize) -> usize {
+    df_msg1059_biases::decode(&mut Parser::new(data, start)).map_or(0, |list| list.len())
 }
 
 /// The 1230 block's `decode`, where only the number of records is wanted: 0 where it refused.
 #[inline(never)]
 pub fn count_1230(data: &[u8], start: usize) -> usize {
-    let mut parser = Parser::new(data, start);
-    df_msg1230_biases::decode(&mut parser).map_or(0, |list| list.len())
+    df_msg1230_biases::decode(&mut Parser::new(data, start)).map_or(0, |list| list.len())
 }
 
 macro_rules! over_systems {

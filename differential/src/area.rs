@@ -10,7 +10,9 @@ pub trait Case: Clone {
     fn difference(&self) -> Option<String>;
 
     /// Inputs that are smaller than this one, the smallest first.
-    fn smaller(&self) -> Smaller<'_, Self>;
+    fn smaller(&self) -> Smaller<'_, Self> {
+        Box::new(std::iter::empty())
+    }
 
     /// The input in words.
     fn show(&self) -> String;
@@ -112,10 +114,28 @@ pub fn smaller_bytes(bytes: &[u8]) -> Smaller<'_, Vec<u8>> {
 }
 
 /// Numbers that are smaller than the given one.
-pub fn smaller_numbers(number: usize) -> impl Iterator<Item = usize> {
+fn smaller_numbers(number: usize) -> impl Iterator<Item = usize> {
     let less = |by| number.saturating_sub(by);
     let candidates = [0, number / 2, less(8), less(1)];
     candidates.into_iter().filter(move |n| *n < number)
+}
+
+/// Data, and a bit place in them or behind them.
+#[derive(Clone)]
+pub struct Place {
+    pub data: Vec<u8>,
+    pub start: usize,
+}
+
+impl Place {
+    pub fn smaller(&self) -> Smaller<'_, Place> {
+        let starts = smaller_numbers(self.start).map(|start| Place {
+            start,
+            ..self.clone()
+        });
+        let data = smaller_bytes(&self.data).map(|data| Place { data, ..*self });
+        Box::new(starts.chain(data))
+    }
 }
 
 /// Bytes in hexadecimal, or how many there are and the first ones.

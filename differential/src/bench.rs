@@ -1,11 +1,11 @@
 //! Times the crate's own calls, as a release build has them, in nanoseconds a call.
 //!
 //! The names are those of the benchmark's rows. The checksum is that of the stand-in for `crc-any`.
-use crate::blocks;
+use crate::blocks::{self, Raw};
 use crate::random::Random;
 use crate::streams::{any_frame, PREAMBLE};
 use rtcm_wrapping::calls;
-use shapes::{FieldType, Reading};
+use shapes::{Block, FieldType, Reading};
 use std::hint::black_box;
 use std::time::Instant;
 
@@ -102,16 +102,10 @@ fn scans(random: &mut Random) {
 
 /// The blocks alone: the crate's own list of records is made before, and what is read stays in it.
 fn bias_blocks(random: &mut Random) {
-    let raw: Vec<blocks::Raw> = (0..93)
-        .map(|i| {
-            (
-                i % 31,
-                blocks::any_signal(random),
-                blocks::any_bias_1059(random),
-            )
-        })
+    let raw: Vec<Raw> = (0..93)
+        .map(|i| blocks::any_record_1059(random, i % 31))
         .collect();
-    let list = calls::list_1059(&blocks::in_metres_1059(&raw));
+    let list = calls::list_1059(&blocks::in_metres(Block::Msg1059, &raw));
     let mut data = vec![0; 1_023];
     time("1059_write 93", || {
         let _ = black_box(calls::encode_1059(black_box(&mut data), 0, &list));
@@ -119,8 +113,8 @@ fn bias_blocks(random: &mut Random) {
     time("1059_read 93", || {
         black_box(calls::count_1059(black_box(&data), 0));
     });
-    let raw = blocks::SIGNALS_1230.map(|(signal, _, _)| (0, signal, -3_597));
-    let list = calls::list_1230(&blocks::in_metres_1230(&raw));
+    let raw = blocks::any_list_1230(random, 0b1111);
+    let list = calls::list_1230(&blocks::in_metres(Block::Msg1230, &raw));
     let mut data = vec![0; 16];
     time("1230_write 4", || {
         let _ = black_box(calls::encode_1230(black_box(&mut data), 0, &list));

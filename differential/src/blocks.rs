@@ -1,69 +1,30 @@
 //! Records of the two bias blocks, raw and as the crate has them.
 use crate::pv::Lists;
 use crate::random::Random;
-use crate::rust::CAPACITY_1059;
-use shapes::{Bias1059, Bias1230};
-
-/// The assigned 1059 signals: number, band and letter.
-pub const SIGNALS_1059: [(u8, u8, char); 12] = [
-    (0, 1, 'C'),
-    (1, 1, 'P'),
-    (2, 1, 'W'),
-    (5, 2, 'C'),
-    (6, 2, 'D'),
-    (7, 2, 'S'),
-    (8, 2, 'L'),
-    (9, 2, 'X'),
-    (10, 2, 'P'),
-    (11, 2, 'W'),
-    (14, 5, 'I'),
-    (15, 5, 'Q'),
-];
-
-/// The 1230 signals in mask order: glo number, band and letter.
-pub const SIGNALS_1230: [(u8, u8, char); 4] = [(2, 1, 'C'), (3, 1, 'P'), (8, 2, 'C'), (9, 2, 'P')];
-
-/// The unit of a raw 1059 bias, and of a raw 1230 bias, in metres.
-pub const UNIT_1059: f32 = 0.01;
-pub const UNIT_1230: f32 = 0.02;
+use crate::rust::{CAPACITY_1059, CHECKED};
+use shapes::{Bias, Block};
+use std::collections::BTreeSet;
+use std::ops::RangeInclusive;
 
 /// A raw record: satellite (0 in 1230), signal number, bias.
 pub type Raw = (u8, u8, i16);
 
-fn named(table: &[(u8, u8, char)], signal: u8) -> Option<(u8, char)> {
-    let found = table.iter().find(|(number, _, _)| *number == signal);
-    found.map(|(_, band, letter)| (*band, *letter))
+/// The raw biases that a block can hold.
+pub fn biases(block: Block) -> RangeInclusive<i16> {
+    match block {
+        Block::Msg1059 => -8192..=8191,
+        Block::Msg1230 => i16::MIN..=i16::MAX,
+    }
 }
 
-/// Whether the 1059 block assigns the number.
-pub fn is_assigned(signal: u8) -> bool {
-    named(&SIGNALS_1059, signal).is_some()
+fn is_assigned(block: Block, signal: u8) -> bool {
+    let mut signals = block.signals().iter();
+    signals.any(|(number, _, _)| *number == signal)
 }
 
 /// The raw records as the crate's own writer takes them, biases in metres. Signals must be assigned.
-pub fn in_metres_1059(raw: &[Raw]) -> Vec<Bias1059> {
-    let record = |(satellite, signal, bias): &Raw| {
-        let (band, letter) = named(&SIGNALS_1059, *signal).expect("an assigned signal");
-        Bias1059 {
-            satellite: *satellite,
-            band,
-            letter,
-            metres: *bias as f32 * UNIT_1059,
-        }
-    };
-    raw.iter().map(record).collect()
-}
-
-/// The raw records as the crate's own writer takes them, biases in metres. Signals must be in the table.
-pub fn in_metres_1230(raw: &[Raw]) -> Vec<Bias1230> {
-    let record = |(_, signal, bias): &Raw| {
-        let (band, letter) = named(&SIGNALS_1230, *signal).expect("a signal of the mask");
-        Bias1230 {
-            band,
-            letter,
-            metres: *bias as f32 * UNIT_1230,
-        }
-    };
+pub fn in_metres(block: Block, raw: &[Raw]) -> Vec<Bias> {
+    let record = |(satellite, signal, bias): &Raw| block.record(*satellite, *signal, *bias);
     raw.iter().map(record).collect()
 }
 
@@ -74,27 +35,32 @@ fn raw_number(metres: f32, unit: f32) -> Option<i16> {
 }
 
 /// The crate's records as raw ones; nothing where one of them is no raw record.
-pub fn raw_1059(records: &[Bias1059]) -> Option<Vec<Raw>> {
-    let raw = |record: &Bias1059| {
+pub fn raw(block: Block, records: &[Bias]) -> Option<Vec<Raw>> {
+    let raw = |record: &Bias| {
         let same = |signal: &&(u8, u8, char)| (signal.1, signal.2) == (record.band, record.letter);
-        let (signal, _, _) = SIGNALS_1059.iter().find(same)?;
-        Some((
-            record.satellite,
-            *signal,
-            raw_number(record.metres, UNIT_1059)?,
-        ))
+        let (signal, _, _) = block.signals().iter().find(same)?;
+        let bias = raw_number(record.metres, block.unit())?;
+        Some((record.satellite, *signal, bias))
     };
     records.iter().map(raw).collect()
 }
 
-/// The crate's records as raw ones; nothing where one of them is no raw record.
-pub fn raw_1230(records: &[Bias1230]) -> Option<Vec<Raw>> {
-    let raw = |record: &Bias1230| {
-        let same = |signal: &&(u8, u8, char)| (signal.1, signal.2) == (record.band, record.letter);
-        let (signal, _, _) = SIGNALS_1230.iter().find(same)?;
-        Some((0, *signal, raw_number(record.metres, UNIT_1230)?))
-    };
-    records.iter().map(raw).collect()
+/// What the crate's reader gives in metres for a raw bias that the block can hold, the only one of a block.
+pub fn their_metres(block: Block, bias: i16) -> Option<f32> {
+    let mut data = [0; 5];
+    match block {
+        Block::Msg1059 => {
+            set_bits(&mut data, 0, 6, 1);
+            set_bits(&mut data, 12, 5, 1);
+            set_bits(&mut data, 22, 14, bias as u16);
+        }
+        Block::Msg1230 => {
+            set_bits(&mut data, 0, 4, 8);
+            set_bits(&mut data, 4, 16, bias as u16);
+        }
+    }
+    let (records, _) = CHECKED.read_block(block, &data, 0);
+    Some(records.ok()?.first()?.metres)
 }
 
 /// The raw records in three lists.
@@ -106,26 +72,47 @@ pub fn lists(raw: &[Raw]) -> Lists {
     }
 }
 
+/// Lists with that many places after our reader has put the records into them.
+pub fn lists_read(block: Block, raw: &[Raw], places: usize) -> Lists {
+    let mut lists = Lists::unwritten(places);
+    for (i, (satellite, signal, bias)) in raw.iter().enumerate() {
+        if block == Block::Msg1059 {
+            lists.satellites[i] = *satellite;
+        }
+        lists.signals[i] = *signal;
+        lists.biases[i] = *bias;
+    }
+    lists
+}
+
 /// Whether our 1059 writer accepts the list, given room, and the crate's vector holds it.
 pub fn is_accepted_1059(raw: &[Raw]) -> bool {
     let mut counts = [0; 256];
     raw.iter().for_each(|record| counts[record.0 as usize] += 1);
+    let is_good = |(satellite, signal, bias): &Raw| {
+        *satellite < 64
+            && is_assigned(Block::Msg1059, *signal)
+            && biases(Block::Msg1059).contains(bias)
+    };
     raw.len() <= CAPACITY_1059
-        && raw.iter().all(|(satellite, signal, bias)| {
-            *satellite < 64 && is_assigned(*signal) && (-8192..8192).contains(bias)
-        })
+        && raw.iter().all(is_good)
         && counts.iter().all(|count| *count <= 31)
         && counts.iter().filter(|count| **count > 0).count() < 64
 }
 
 /// The bits of the block that holds the list.
-pub fn bits_1059(raw: &[Raw]) -> usize {
-    let satellites: std::collections::BTreeSet<u8> = raw.iter().map(|record| record.0).collect();
-    6 + 11 * satellites.len() + 19 * raw.len()
+pub fn bits(block: Block, raw: &[Raw]) -> usize {
+    match block {
+        Block::Msg1059 => {
+            let satellites: BTreeSet<u8> = raw.iter().map(|record| record.0).collect();
+            6 + 11 * satellites.len() + 19 * raw.len()
+        }
+        Block::Msg1230 => 4 + 16 * raw.len(),
+    }
 }
 
 /// A field of up to 16 bits, most significant bit first, if the data reach so far.
-pub fn bits_at(data: &[u8], start: usize, width: usize) -> Option<u16> {
+fn bits_at(data: &[u8], start: usize, width: usize) -> Option<u16> {
     let bit = |place: usize| {
         let byte = data.get(place / 8)?;
         Some(u16::from(byte >> (7 - place % 8) & 1))
@@ -165,7 +152,7 @@ pub fn is_plain_1059(data: &[u8], start: usize) -> bool {
             let Some(signal) = field(5) else {
                 return true;
             };
-            if !is_assigned(signal as u8) {
+            if !is_assigned(Block::Msg1059, signal as u8) {
                 return false;
             }
             let Some(_) = field(14) else {
@@ -193,7 +180,7 @@ pub fn any_list_1059(random: &mut Random) -> Vec<Raw> {
     for i in 0..different {
         let satellite = ((first + i * 5) % 64) as u8;
         for _ in 0..random.within(1, most) {
-            list.push((satellite, any_signal(random), any_bias_1059(random)));
+            list.push(any_record_1059(random, satellite));
         }
     }
     list.truncate(CAPACITY_1059);
@@ -203,25 +190,35 @@ pub fn any_list_1059(random: &mut Random) -> Vec<Raw> {
     list
 }
 
-pub fn any_signal(random: &mut Random) -> u8 {
-    random.pick(&SIGNALS_1059).0
+/// A record that the 1059 writers accept.
+pub fn any_record_1059(random: &mut Random, satellite: u8) -> Raw {
+    let (signal, _, _) = random.pick(Block::Msg1059.signals());
+    (satellite, signal, any_bias(random, Block::Msg1059))
 }
 
-pub fn any_bias_1059(random: &mut Random) -> i16 {
-    match random.below(6) {
-        0 => random.pick(&[-8192, -8191, -1, 0, 1, 8190, 8191]),
-        _ => (random.next() as i16) >> 2,
+/// The 1230 signals that a mask has, the first one as its lowest bit, with random biases in random order.
+pub fn any_list_1230(random: &mut Random, mask: usize) -> Vec<Raw> {
+    let mut list = Vec::new();
+    for (i, (signal, _, _)) in Block::Msg1230.signals().iter().enumerate() {
+        if mask >> i & 1 == 1 {
+            list.push((0, *signal, any_bias(random, Block::Msg1230)));
+        }
     }
+    shuffle(random, &mut list);
+    list
 }
 
-pub fn any_bias_1230(random: &mut Random) -> i16 {
+/// A bias that the block can hold, often at a limit.
+pub fn any_bias(random: &mut Random, block: Block) -> i16 {
+    let (least, greatest) = biases(block).into_inner();
     match random.below(6) {
-        0 => random.pick(&[-32768, -32767, -1, 0, 1, 32766, 32767]),
+        0 => random.pick(&[least, least + 1, -1, 0, 1, greatest - 1, greatest]),
+        _ if block == Block::Msg1059 => (random.next() as i16) >> 2,
         _ => random.next() as i16,
     }
 }
 
-pub fn shuffle<T>(random: &mut Random, list: &mut [T]) {
+fn shuffle<T>(random: &mut Random, list: &mut [T]) {
     for i in (1..list.len()).rev() {
         list.swap(i, random.below(i + 1));
     }

@@ -2,7 +2,6 @@
 mod area;
 mod bench;
 mod blocks;
-mod builds;
 mod compare;
 mod differences;
 mod pv;

@@ -1,5 +1,5 @@
 //! The functions of libpeerivolt.a, and a safe call for each. An area is a pointer and a length in elements.
-use shapes::Reading;
+use shapes::{Block, Reading};
 
 /// Numbers in the extra area.
 pub const EXTRA: usize = 8;
@@ -9,8 +9,9 @@ pub const HELD: usize = 1_029;
 pub const DATA: usize = 1_023;
 /// Bytes in the longest piece.
 pub const PIECE: usize = 65_536;
-/// Records that suffice for every 1059 block.
+/// Records that suffice for every 1059 block, and for every 1230 block.
 pub const RECORDS_1059: usize = 422;
+pub const RECORDS_1230: usize = 4;
 
 pub const SHORT: u32 = 1;
 pub const WIDTH: u32 = 2;
@@ -53,54 +54,6 @@ mod raw {
             piece_len: usize,
             out: *mut u8,
             out_len: usize,
-            extra: *mut u64,
-            extra_len: usize,
-        ) -> u32;
-        pub fn pv_1059_read(
-            data: *const u8,
-            data_len: usize,
-            start: usize,
-            satellites: *mut u8,
-            satellites_len: usize,
-            signals: *mut u8,
-            signals_len: usize,
-            biases: *mut i16,
-            biases_len: usize,
-            extra: *mut u64,
-            extra_len: usize,
-        ) -> u32;
-        pub fn pv_1059_write(
-            data: *mut u8,
-            data_len: usize,
-            start: usize,
-            satellites: *const u8,
-            satellites_len: usize,
-            signals: *const u8,
-            signals_len: usize,
-            biases: *const i16,
-            biases_len: usize,
-            extra: *mut u64,
-            extra_len: usize,
-        ) -> u32;
-        pub fn pv_1230_read(
-            data: *const u8,
-            data_len: usize,
-            start: usize,
-            signals: *mut u8,
-            signals_len: usize,
-            biases: *mut i16,
-            biases_len: usize,
-            extra: *mut u64,
-            extra_len: usize,
-        ) -> u32;
-        pub fn pv_1230_write(
-            data: *mut u8,
-            data_len: usize,
-            start: usize,
-            signals: *const u8,
-            signals_len: usize,
-            biases: *const i16,
-            biases_len: usize,
             extra: *mut u64,
             extra_len: usize,
         ) -> u32;
@@ -155,6 +108,37 @@ mod raw {
         pv_field_read_unsigned, pv_field_write_unsigned, u64;
         pv_field_read_twos, pv_field_write_twos, i64;
         pv_field_read_signmag, pv_field_write_signmag, i64;
+    }
+
+    macro_rules! blocks {
+        ($($read:ident, $write:ident, $($list:ty)+;)+) => {
+            extern "C" {
+                $(
+                    pub fn $read(
+                        data: *const u8,
+                        data_len: usize,
+                        start: usize,
+                        $(_: *mut $list, _: usize,)+
+                        extra: *mut u64,
+                        extra_len: usize,
+                    ) -> u32;
+                    pub fn $write(
+                        data: *mut u8,
+                        data_len: usize,
+                        start: usize,
+                        $(_: *const $list, _: usize,)+
+                        extra: *mut u64,
+                        extra_len: usize,
+                    ) -> u32;
+                )+
+            }
+        };
+    }
+
+    // Satellites in 1059 only, then signals and biases.
+    blocks! {
+        pv_1059_read, pv_1059_write, u8 u8 i16;
+        pv_1230_read, pv_1230_write, u8 i16;
     }
 }
 
@@ -277,66 +261,43 @@ impl Lists {
     }
 }
 
-pub fn read_1059(data: &[u8], start: usize, lists: &mut Lists) -> Told {
-    told!(pv_1059_read(
-        data.as_ptr(),
-        data.len(),
-        start,
-        lists.satellites.as_mut_ptr(),
-        lists.satellites.len(),
-        lists.signals.as_mut_ptr(),
-        lists.signals.len(),
-        lists.biases.as_mut_ptr(),
-        lists.biases.len()
-    ))
+/// Calls a function over data, a start and some of the lists, each area lent by the named method.
+macro_rules! told_of_block {
+    ($function:ident($data:ident.$lent:ident, $start:ident, $lists:ident.$lists_lent:ident: $($list:ident)+)) => {
+        told!($function(
+            $data.$lent(), $data.len(), $start, $($lists.$list.$lists_lent(), $lists.$list.len()),+
+        ))
+    };
 }
 
-pub fn write_1059(data: &mut [u8], start: usize, lists: &Lists) -> Told {
-    told!(pv_1059_write(
-        data.as_mut_ptr(),
-        data.len(),
-        start,
-        lists.satellites.as_ptr(),
-        lists.satellites.len(),
-        lists.signals.as_ptr(),
-        lists.signals.len(),
-        lists.biases.as_ptr(),
-        lists.biases.len()
-    ))
+pub fn read_block(block: Block, data: &[u8], start: usize, lists: &mut Lists) -> Told {
+    match block {
+        Block::Msg1059 => {
+            told_of_block!(pv_1059_read(data.as_ptr, start, lists.as_mut_ptr: satellites signals biases))
+        }
+        Block::Msg1230 => {
+            told_of_block!(pv_1230_read(data.as_ptr, start, lists.as_mut_ptr: signals biases))
+        }
+    }
 }
 
-pub fn read_1230(data: &[u8], start: usize, lists: &mut Lists) -> Told {
-    told!(pv_1230_read(
-        data.as_ptr(),
-        data.len(),
-        start,
-        lists.signals.as_mut_ptr(),
-        lists.signals.len(),
-        lists.biases.as_mut_ptr(),
-        lists.biases.len()
-    ))
+pub fn write_block(block: Block, data: &mut [u8], start: usize, lists: &Lists) -> Told {
+    match block {
+        Block::Msg1059 => {
+            told_of_block!(pv_1059_write(data.as_mut_ptr, start, lists.as_ptr: satellites signals biases))
+        }
+        Block::Msg1230 => {
+            told_of_block!(pv_1230_write(data.as_mut_ptr, start, lists.as_ptr: signals biases))
+        }
+    }
 }
 
-pub fn write_1230(data: &mut [u8], start: usize, lists: &Lists) -> Told {
-    told!(pv_1230_write(
-        data.as_mut_ptr(),
-        data.len(),
-        start,
-        lists.signals.as_ptr(),
-        lists.signals.len(),
-        lists.biases.as_ptr(),
-        lists.biases.len()
-    ))
-}
-
-pub fn metres_1059(raw: i16) -> f32 {
-    // SAFETY: the call takes and returns a number.
-    unsafe { raw::pv_1059_metres(raw) }
-}
-
-pub fn metres_1230(raw: i16) -> f32 {
-    // SAFETY: the call takes and returns a number.
-    unsafe { raw::pv_1230_metres(raw) }
+pub fn metres(block: Block, raw: i16) -> f32 {
+    // SAFETY: the calls take and return a number.
+    match block {
+        Block::Msg1059 => unsafe { raw::pv_1059_metres(raw) },
+        Block::Msg1230 => unsafe { raw::pv_1230_metres(raw) },
+    }
 }
 
 pub fn signal_of(system: u32, number: u32) -> Told {

@@ -3,9 +3,9 @@ use crate::blocks::{self, Raw};
 use crate::compare::{any_value, SYSTEMS};
 use crate::pv;
 use crate::random::Random;
-use crate::rust;
+use crate::rust::{self, CHECKED};
 use crate::streams::{any_frame, any_len, any_stream, damaged, framed, PREAMBLE};
-use shapes::{FieldType, Reading, Refused};
+use shapes::{Block, FieldType, Reading, Refused};
 use std::cmp::Ordering;
 use std::io::Write;
 use std::path::Path;
@@ -138,7 +138,7 @@ fn frames(list: &mut List, random: &mut Random) {
     for bytes in inputs {
         let mut record = Record::new(FRAME);
         record.area(&bytes);
-        match rust::frame(&bytes) {
+        match CHECKED.frame(&bytes) {
             Ok(frame) => {
                 let number = frame.number.filter(|_| frame.data_len >= 2);
                 record.one(0).two(frame.frame_len).two(frame.data_len);
@@ -172,7 +172,9 @@ fn scans(list: &mut List, random: &mut Random) {
         inputs.push(stream);
     }
     for stream in inputs {
-        let scanned = rust::scan(&stream).unwrap_or_else(|refused| never(refused));
+        let scanned = CHECKED
+            .scan(&stream)
+            .unwrap_or_else(|refused| never(refused));
         let mut record = Record::new(SCAN);
         record.area(&stream).two(scanned.frames.len());
         for (place, len) in scanned.frames {
@@ -199,7 +201,7 @@ fn fields(list: &mut List, random: &mut Random) {
             };
             let mut record = Record::new(FIELD_READ[kind]);
             record.two(start).one(width as u8).area(&data);
-            match rust::parse(field, &data, start, width) {
+            match CHECKED.parse(field, &data, start, width) {
                 Ok((value, _)) => record.one(0).plain(&(value as u64).to_be_bytes()),
                 Err("BufferOverflow") => record.refused(pv::SHORT, start),
                 Err(other) => never(other),
@@ -211,13 +213,21 @@ fn fields(list: &mut List, random: &mut Random) {
             record.two(start).one(width as u8);
             record.plain(&(value as u64).to_be_bytes()).area(&data);
             let mut after = data;
-            match rust::put(field, &mut after, start, width, value) {
+            match CHECKED.put(field, &mut after, start, width, value) {
                 Ok(end) => record.one(0).two(end).plain(&after),
                 Err("BufferOverflow") => record.refused(pv::ROOM, width),
                 Err(other) => never(other),
             };
             list.add(&record);
         }
+    }
+}
+
+/// The kinds of a block's records: read, write, metres.
+fn kinds(block: Block) -> (u8, u8, u8) {
+    match block {
+        Block::Msg1059 => (READ_1059, WRITE_1059, METRES_1059),
+        Block::Msg1230 => (READ_1230, WRITE_1230, METRES_1230),
     }
 }
 
@@ -232,66 +242,42 @@ fn blocks_1059(list: &mut List, random: &mut Random) {
     }
     for raw in lists {
         let start = random.below(if raw.len() > 12 { 9 } else { 60 });
-        let spare = random.below(3);
-        let len = (start + blocks::bits_1059(&raw)).div_ceil(8) + spare;
-        let mut data = random.bytes(len);
-        let mut record = Record::new(WRITE_1059);
-        record.two(start).two(raw.len()).list(&raw).area(&data);
-        match rust::write_1059(&mut data, start, &blocks::in_metres_1059(&raw)) {
-            Ok(end) => record.one(0).two(end).plain(&data),
-            Err(other) => never(other),
-        };
-        list.add(&record);
-        read_1059(list, &data, start);
-        read_1059(list, &data[..random.below(len)], start);
+        both_ways(list, random, Block::Msg1059, &raw, start);
     }
-}
-
-fn read_1059(list: &mut List, data: &[u8], start: usize) {
-    let mut record = Record::new(READ_1059);
-    record.two(start).area(data);
-    match rust::read_1059(data, start) {
-        (Ok(records), end) => {
-            let raw = blocks::raw_1059(&records).expect("raw numbers");
-            record.one(0).two(raw.len()).two(end).list(&raw)
-        }
-        (Err("BufferOverflow"), place) => record.refused(pv::SHORT, place),
-        (Err(other), _) => never(other),
-    };
-    list.add(&record);
 }
 
 fn blocks_1230(list: &mut List, random: &mut Random) {
     for round in 0..160 {
-        let mut raw: Vec<Raw> = Vec::new();
-        for (i, (signal, _, _)) in blocks::SIGNALS_1230.iter().enumerate() {
-            if round >> i & 1 == 1 {
-                raw.push((0, *signal, blocks::any_bias_1230(random)));
-            }
-        }
-        blocks::shuffle(random, &mut raw);
+        let raw = blocks::any_list_1230(random, round);
         let start = random.below(30);
-        let spare = random.below(3);
-        let len = (start + 4 + 16 * raw.len()).div_ceil(8) + spare;
-        let mut data = random.bytes(len);
-        let mut record = Record::new(WRITE_1230);
-        record.two(start).two(raw.len()).list(&raw).area(&data);
-        match rust::write_1230(&mut data, start, &blocks::in_metres_1230(&raw)) {
-            Ok(end) => record.one(0).two(end).plain(&data),
-            Err(other) => never(other),
-        };
-        list.add(&record);
-        read_1230(list, &data, start);
-        read_1230(list, &data[..random.below(len)], start);
+        both_ways(list, random, Block::Msg1230, &raw, start);
     }
 }
 
-fn read_1230(list: &mut List, data: &[u8], start: usize) {
-    let mut record = Record::new(READ_1230);
+/// Writes the raw records, and reads what was written, whole and cut short.
+fn both_ways(list: &mut List, random: &mut Random, block: Block, raw: &[Raw], start: usize) {
+    let (_, write, _) = kinds(block);
+    let spare = random.below(3);
+    let len = (start + blocks::bits(block, raw)).div_ceil(8) + spare;
+    let mut data = random.bytes(len);
+    let mut record = Record::new(write);
+    record.two(start).two(raw.len()).list(raw).area(&data);
+    match CHECKED.write_block(block, &mut data, start, &blocks::in_metres(block, raw)) {
+        Ok(end) => record.one(0).two(end).plain(&data),
+        Err(other) => never(other),
+    };
+    list.add(&record);
+    read_block(list, block, &data, start);
+    read_block(list, block, &data[..random.below(len)], start);
+}
+
+fn read_block(list: &mut List, block: Block, data: &[u8], start: usize) {
+    let (read, _, _) = kinds(block);
+    let mut record = Record::new(read);
     record.two(start).area(data);
-    match rust::read_1230(data, start) {
+    match CHECKED.read_block(block, data, start) {
         (Ok(records), end) => {
-            let raw = blocks::raw_1230(&records).expect("raw numbers");
+            let raw = blocks::raw(block, &records).expect("raw numbers");
             record.one(0).two(raw.len()).two(end).list(&raw)
         }
         (Err("BufferOverflow"), place) => record.refused(pv::SHORT, place),
@@ -324,7 +310,7 @@ fn tables(list: &mut List, random: &mut Random) {
         }
         for _ in 0..60 {
             let (a, b) = (random.pick(&signals), random.pick(&signals));
-            let order = match rust::order(system as u32, a, b) {
+            let order = match CHECKED.order(system as u32, a, b).0 {
                 Ordering::Less => 0,
                 Ordering::Equal => 1,
                 Ordering::Greater => 2,
@@ -338,35 +324,27 @@ fn tables(list: &mut List, random: &mut Random) {
 
 fn metres(list: &mut List, random: &mut Random) {
     for round in 0..400 {
-        let raw = match round {
+        let bias = match round {
             0..14 => 1 << round,
             14..28 => -1 << (round - 14),
-            _ => blocks::any_bias_1059(random),
+            _ => blocks::any_bias(random, Block::Msg1059),
         };
-        let raw = raw.clamp(-8192, 8191);
-        let mut data = [0x04, 0, 0x80, 0, 0];
-        blocks::set_bits(&mut data, 22, 14, raw as u16);
-        let (Ok(read), _) = rust::read_1059(&data, 0) else {
-            never("a refusal");
-        };
-        let mut record = Record::new(METRES_1059);
-        record.plain(&raw.to_be_bytes());
-        record.plain(&read[0].metres.to_bits().to_be_bytes());
-        list.add(&record);
+        metres_of(list, Block::Msg1059, bias.clamp(-8192, 8191));
     }
     for round in 0..400 {
-        let raw = match round {
+        let bias = match round {
             0..16 => (1u16 << round) as i16,
-            _ => blocks::any_bias_1230(random),
+            _ => blocks::any_bias(random, Block::Msg1230),
         };
-        let mut data = [0x80, 0, 0];
-        blocks::set_bits(&mut data, 4, 16, raw as u16);
-        let (Ok(read), _) = rust::read_1230(&data, 0) else {
-            never("a refusal");
-        };
-        let mut record = Record::new(METRES_1230);
-        record.plain(&raw.to_be_bytes());
-        record.plain(&read[0].metres.to_bits().to_be_bytes());
-        list.add(&record);
+        metres_of(list, Block::Msg1230, bias);
     }
+}
+
+fn metres_of(list: &mut List, block: Block, bias: i16) {
+    let (_, _, kind) = kinds(block);
+    let metres = blocks::their_metres(block, bias).unwrap_or_else(|| never("a refusal"));
+    let mut record = Record::new(kind);
+    record.plain(&bias.to_be_bytes());
+    record.plain(&metres.to_bits().to_be_bytes());
+    list.add(&record);
 }

@@ -1,8 +1,8 @@
 //! Replays a list of recorded answers against libpeerivolt.a, as a program without Rust would.
-use crate::blocks::Raw;
+use crate::blocks::{self, Raw};
 use crate::pv::{self, Lists, Told};
 use crate::record::{self, READINGS};
-use shapes::Scanned;
+use shapes::{Block, Scanned};
 use std::path::Path;
 
 /// What is left of a record.
@@ -39,6 +39,15 @@ impl<'a> Rest<'a> {
                 Some(Told::accepted(&numbers?))
             }
             refusal => Some(Told::refused(refusal, self.number(2)?)),
+        }
+    }
+
+    /// What a write over the data answers, and what it leaves: after a refusal the data as they were.
+    fn written(&mut self, data: &'a [u8]) -> Option<(Told, &'a [u8])> {
+        let told = self.told(&[2])?;
+        match told.number {
+            0 => Some((told, self.plain(data.len())?)),
+            _ => Some((told, data)),
         }
     }
 
@@ -97,19 +106,13 @@ fn is_same(kind: u8, bytes: &[u8]) -> Option<bool> {
         record::SCAN => scan(rest)?,
         0x03..=0x05 => field_read(rest, kind - record::FIELD_READ[0])?,
         0x06..=0x08 => field_write(rest, kind - record::FIELD_WRITE[0])?,
-        record::READ_1059 => read(rest, pv::read_1059, true)?,
-        record::WRITE_1059 => write(rest, pv::write_1059)?,
-        record::READ_1230 => read(rest, pv::read_1230, false)?,
-        record::WRITE_1230 => write(rest, pv::write_1230)?,
+        record::READ_1059 => read(rest, Block::Msg1059)?,
+        record::WRITE_1059 => write(rest, Block::Msg1059)?,
+        record::READ_1230 => read(rest, Block::Msg1230)?,
+        record::WRITE_1230 => write(rest, Block::Msg1230)?,
         record::SIGNAL_OF | record::NUMBER_OF | record::ORDER => signals(rest, kind)?,
-        record::METRES_1059 => {
-            let metres = pv::metres_1059(rest.number(2)? as i16);
-            u64::from(metres.to_bits()) == rest.number(4)?
-        }
-        record::METRES_1230 => {
-            let metres = pv::metres_1230(rest.number(2)? as i16);
-            u64::from(metres.to_bits()) == rest.number(4)?
-        }
+        record::METRES_1059 => metres(rest, Block::Msg1059)?,
+        record::METRES_1230 => metres(rest, Block::Msg1230)?,
         _ => return None,
     };
     Some(same && rest.bytes.is_empty())
@@ -179,51 +182,35 @@ fn field_write(rest: &mut Rest, reading: u8) -> Option<bool> {
     let data = rest.area()?;
     let mut after = data.to_vec();
     let told = pv::field_write(READINGS[reading as usize], &mut after, start, width, value);
-    let expected = rest.told(&[2])?;
-    let data = if expected.number == 0 {
-        rest.plain(data.len())?
-    } else {
-        data
-    };
-    Some(expected == told && after == data)
+    Some(rest.written(data)? == (told, &after))
 }
 
-fn read(
-    rest: &mut Rest,
-    call: fn(&[u8], usize, &mut Lists) -> Told,
-    has_satellites: bool,
-) -> Option<bool> {
+fn read(rest: &mut Rest, block: Block) -> Option<bool> {
     let start = rest.number(2)? as usize;
     let data = rest.area()?;
     let mut lists = Lists::unwritten(pv::RECORDS_1059);
-    let told = call(data, start, &mut lists);
+    let told = pv::read_block(block, data, start, &mut lists);
     let expected = rest.told(&[2, 2])?;
-    let mut after = Lists::unwritten(pv::RECORDS_1059);
-    if expected.number == 0 {
-        let records = rest.raw(expected.extra[0] as usize)?;
-        for (i, (satellite, signal, bias)) in records.into_iter().enumerate() {
-            if has_satellites {
-                after.satellites[i] = satellite;
-            }
-            after.signals[i] = signal;
-            after.biases[i] = bias;
-        }
-    }
+    let count = if expected.number == 0 {
+        expected.extra[0]
+    } else {
+        0
+    };
+    let after = blocks::lists_read(block, &rest.raw(count as usize)?, pv::RECORDS_1059);
     Some(expected == told && lists == after)
 }
 
-fn write(rest: &mut Rest, call: fn(&mut [u8], usize, &Lists) -> Told) -> Option<bool> {
+fn write(rest: &mut Rest, block: Block) -> Option<bool> {
     let start = rest.number(2)? as usize;
     let count = rest.number(2)? as usize;
-    let list = crate::blocks::lists(&rest.raw(count)?);
+    let lists = blocks::lists(&rest.raw(count)?);
     let data = rest.area()?;
     let mut after = data.to_vec();
-    let told = call(&mut after, start, &list);
-    let expected = rest.told(&[2])?;
-    let data = if expected.number == 0 {
-        rest.plain(data.len())?
-    } else {
-        data
-    };
-    Some(expected == told && after == data)
+    let told = pv::write_block(block, &mut after, start, &lists);
+    Some(rest.written(data)? == (told, &after))
+}
+
+fn metres(rest: &mut Rest, block: Block) -> Option<bool> {
+    let metres = pv::metres(block, rest.number(2)? as i16);
+    Some(u64::from(metres.to_bits()) == rest.number(4)?)
 }

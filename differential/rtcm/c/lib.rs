@@ -1,7 +1,7 @@
 //! rtcm-rs behind C names, so that the benchmark's own driver can time it beside the library. rtcm_rust.h describes
 //! the calls. The caller gives valid pointers and lengths, and inputs on which the crate does not panic.
 use rtcm_wrapping::calls::{self, List1059, List1230};
-use shapes::{Bias1059, Bias1230, FieldType, Reading};
+use shapes::{Bias, Block, FieldType, Reading};
 use std::slice;
 
 /// # Safety
@@ -121,22 +121,10 @@ pub unsafe extern "C" fn rs_1059_read(data: *const u8, len: usize, start: usize)
     calls::count_1059(area(data, len), start)
 }
 
-/// The band and the letter of a 1059 signal.
-fn signal_1059(number: u8) -> (u8, char) {
-    match number {
-        0 => (1, 'C'),
-        1 => (1, 'P'),
-        2 => (1, 'W'),
-        5 => (2, 'C'),
-        6 => (2, 'D'),
-        7 => (2, 'S'),
-        8 => (2, 'L'),
-        9 => (2, 'X'),
-        10 => (2, 'P'),
-        11 => (2, 'W'),
-        14 => (5, 'I'),
-        _ => (5, 'Q'),
-    }
+/// The raw records as the crate has them. The lists have the same length, and the signals are assigned.
+fn records(block: Block, satellites: &[u8], signals: &[u8], biases: &[i16]) -> Vec<Bias> {
+    let record = |i: usize| block.record(satellites[i], signals[i], biases[i]);
+    (0..satellites.len()).map(record).collect()
 }
 
 /// # Safety
@@ -148,18 +136,12 @@ pub unsafe extern "C" fn rs_1059_list_new(
     biases: *const i16,
     len: usize,
 ) -> Box<List1059> {
-    let satellites = area(satellites, len).iter();
-    let rest = area(signals, len).iter().zip(area(biases, len));
-    let record = |(satellite, (signal, bias)): (&u8, (&u8, &i16))| {
-        let (band, letter) = signal_1059(*signal);
-        Bias1059 {
-            satellite: *satellite,
-            band,
-            letter,
-            metres: *bias as f32 * 0.01,
-        }
-    };
-    let records: Vec<Bias1059> = satellites.zip(rest).map(record).collect();
+    let records = records(
+        Block::Msg1059,
+        area(satellites, len),
+        area(signals, len),
+        area(biases, len),
+    );
     Box::new(calls::list_1059(&records))
 }
 
@@ -172,7 +154,7 @@ pub unsafe extern "C" fn rs_1059_write(
     start: usize,
     list: *const List1059,
 ) -> usize {
-    calls::encode_1059(area_mut(data, len), start, &*list).1
+    calls::encode_1059(area_mut(data, len), start, &*list).unwrap_or(0)
 }
 
 #[no_mangle]
@@ -195,13 +177,12 @@ pub unsafe extern "C" fn rs_1230_list_new(
     biases: *const i16,
     len: usize,
 ) -> Box<List1230> {
-    let record = |(signal, bias): (&u8, &i16)| Bias1230 {
-        band: if *signal < 8 { 1 } else { 2 },
-        letter: if signal % 2 == 0 { 'C' } else { 'P' },
-        metres: *bias as f32 * 0.02,
-    };
-    let records = area(signals, len).iter().zip(area(biases, len));
-    let records: Vec<Bias1230> = records.map(record).collect();
+    let records = records(
+        Block::Msg1230,
+        &vec![0; len],
+        area(signals, len),
+        area(biases, len),
+    );
     Box::new(calls::list_1230(&records))
 }
 
@@ -214,7 +195,7 @@ pub unsafe extern "C" fn rs_1230_write(
     start: usize,
     list: *const List1230,
 ) -> usize {
-    calls::encode_1230(area_mut(data, len), start, &*list).1
+    calls::encode_1230(area_mut(data, len), start, &*list).unwrap_or(0)
 }
 
 #[no_mangle]

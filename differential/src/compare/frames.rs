@@ -2,7 +2,7 @@
 use crate::area::{hex, smaller_bytes, Area, Case, Smaller};
 use crate::pv::{self, Told};
 use crate::random::Random;
-use crate::rust;
+use crate::rust::CHECKED;
 use crate::streams::{any_frame, damaged, framed, PREAMBLE};
 use shapes::{Frame, Refused};
 
@@ -14,7 +14,7 @@ struct Bytes {
 
 impl Case for Bytes {
     fn difference(&self) -> Option<String> {
-        let theirs = rust::frame(&self.bytes);
+        let theirs = CHECKED.frame(&self.bytes);
         let Some(expected) = expected(&theirs) else {
             return Some(format!("the Rust answers {theirs:?}"));
         };

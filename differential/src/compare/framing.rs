@@ -2,7 +2,7 @@
 use crate::area::{hex, smaller_bytes, Area, Case, Smaller};
 use crate::pv::{self, Told};
 use crate::random::Random;
-use crate::rust;
+use crate::rust::CHECKED;
 
 /// The two message numbers that the crate was built with.
 const NUMBERS: [u16; 2] = [1059, 1230];
@@ -24,7 +24,7 @@ impl Data {
 
 impl Case for Data {
     fn difference(&self) -> Option<String> {
-        let theirs = rust::build_message(self.number, self.half & 0xF, &self.bytes);
+        let theirs = CHECKED.build_message(self.number, self.half & 0xF, &self.bytes);
         let Ok(theirs) = theirs else {
             return Some(format!("the Rust answers {theirs:?}"));
         };

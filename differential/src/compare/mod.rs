@@ -1,6 +1,5 @@
 //! The comparison over the whole domain, area by area.
-mod bias1059;
-mod bias1230;
+mod biases;
 mod checksum;
 mod fields;
 mod frames;
@@ -9,7 +8,8 @@ mod metres;
 mod scans;
 mod tables;
 
-use crate::area::Area;
+use crate::area::{hex, Area};
+use crate::pv::Told;
 use crate::random::Random;
 use std::path::Path;
 use std::time::Instant;
@@ -35,11 +35,17 @@ pub fn run(seed: u64, recordings: &Path) -> bool {
     done(framing::run(&mut Random::new(seed + 2)));
     done(scans::run(&mut Random::new(seed + 3), recordings));
     done(fields::run(&mut Random::new(seed + 4)));
-    done(bias1059::run(&mut Random::new(seed + 5)));
-    done(bias1230::run(&mut Random::new(seed + 6)));
+    done(biases::run_1059(&mut Random::new(seed + 5)));
+    done(biases::run_1230(&mut Random::new(seed + 6)));
     done(tables::run(&mut Random::new(seed + 7)));
     done(metres::run());
     println!("{:<44}{compared:>12}{differing:>12}", "in total");
     println!("seed {seed}, {:.1} s", began.elapsed().as_secs_f64());
     differing == 0
+}
+
+/// What differs between two writes, each an answer and the bytes that it left.
+fn between_writes(theirs: (Told, &[u8]), ours: (Told, &[u8])) -> Option<String> {
+    let show = |(told, left): (Told, &[u8])| format!("{told:?} {}", hex(left));
+    (theirs != ours).then(|| format!("the Rust {}, ours {}", show(theirs), show(ours)))
 }

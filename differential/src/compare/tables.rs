@@ -1,8 +1,8 @@
 //! The seven signal tables both ways, and `Ord`, against `msm_mappings.rs`.
-use crate::area::{Area, Case, Smaller};
+use crate::area::{Area, Case};
 use crate::pv::{self, Told};
 use crate::random::Random;
-use crate::rust;
+use crate::rust::{self, CHECKED};
 use std::cmp::Ordering;
 
 /// The systems' names, in the order of their numbers.
@@ -32,10 +32,6 @@ impl Case for SignalOf {
         (ours != expected).then(|| format!("the Rust {theirs:?}, ours {ours:?}"))
     }
 
-    fn smaller(&self) -> Smaller<'_, SignalOf> {
-        Box::new(std::iter::empty())
-    }
-
     fn show(&self) -> String {
         format!("{} number {}", SYSTEMS[self.system as usize], self.number)
     }
@@ -60,10 +56,6 @@ impl Case for NumberOf {
         (ours != expected).then(|| format!("the Rust {theirs:?}, ours {ours:?}"))
     }
 
-    fn smaller(&self) -> Smaller<'_, NumberOf> {
-        Box::new(std::iter::empty())
-    }
-
     fn show(&self) -> String {
         format!("{} signal {:?}", SYSTEMS[self.system as usize], self.signal)
     }
@@ -79,7 +71,7 @@ struct Order {
 
 impl Case for Order {
     fn difference(&self) -> Option<String> {
-        let theirs = rust::order(self.system, self.a, self.b);
+        let (theirs, _) = CHECKED.order(self.system, self.a, self.b);
         let number = match theirs {
             Ordering::Less => -1i64,
             Ordering::Equal => 0,
@@ -88,10 +80,6 @@ impl Case for Order {
         let ours = pv::signal_order(self.system, numbers(self.a), numbers(self.b));
         let same = ours == Told::accepted(&[number as u64]);
         (!same).then(|| format!("the Rust {theirs:?}, ours {ours:?}"))
-    }
-
-    fn smaller(&self) -> Smaller<'_, Order> {
-        Box::new(std::iter::empty())
     }
 
     fn show(&self) -> String {

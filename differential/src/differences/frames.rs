@@ -1,9 +1,9 @@
 //! Entries on frames and scanning.
 use super::{refusal, Entry};
 use crate::area::hex;
-use crate::builds::BUILDS;
+use crate::pv;
+use crate::rust::CHECKED;
 use crate::streams::framed;
-use crate::{pv, rust};
 use shapes::{Frame, Refused};
 
 pub fn entries() -> Vec<Entry> {
@@ -32,9 +32,7 @@ fn number_from_behind() -> Entry {
     let empty = [framed(&[], 0), vec![0, 0]].concat();
     let one = [framed(&[0x43], 0), vec![0]].concat();
     for (bytes, said) in [(empty, "number 1150"), (one, "number 1073")] {
-        for build in &BUILDS {
-            entry.says(build.name, &hex(&bytes), said, number(build.frame(&bytes)));
-        }
+        entry.builds(&hex(&bytes), said, |build| number(build.frame(&bytes)));
         entry.ours(&hex(&bytes), "no number", our_number(&bytes));
     }
     entry
@@ -42,7 +40,9 @@ fn number_from_behind() -> Entry {
 
 fn framing() -> Entry {
     let mut entry = Entry::new("F2", "Framing takes data bytes");
-    let built = rust::build_message(0, 0, &[]).map_or_else(str::to_string, |frame| hex(&frame));
+    let built = CHECKED
+        .build_message(0, 0, &[])
+        .map_or_else(str::to_string, |frame| hex(&frame));
     entry.says(
         "the Rust",
         "nothing to frame",
@@ -56,7 +56,7 @@ fn framing() -> Entry {
 }
 
 fn scanned(bytes: &[u8]) -> String {
-    match rust::scan(bytes) {
+    match CHECKED.scan(bytes) {
         Ok(scanned) => {
             let (frames, consumed) = (scanned.frames.len(), scanned.consumed);
             format!("{frames} frames, {consumed} bytes consumed")

@@ -1,13 +1,11 @@
 //! Runs each entry of DIFFERENCES.md: what the Rust answers, what ours answers, and whether the page says so.
-mod bias1059;
-mod bias1230;
+mod biases;
 mod fields;
 mod frames;
 mod tables;
 
-use crate::area::hex;
 use crate::pv::{self, Told};
-use shapes::Refused;
+use crate::rust::{Build, BUILDS};
 use std::collections::BTreeSet;
 use std::path::Path;
 
@@ -42,6 +40,13 @@ impl Entry {
         });
     }
 
+    /// Adds what both builds answer, of which the page says the same.
+    fn builds(&mut self, asked: &str, said: &str, answer: impl Fn(&Build) -> String) {
+        for build in &BUILDS {
+            self.says(build.name, asked, said, answer(build));
+        }
+    }
+
     /// Adds our answer.
     fn ours(&mut self, asked: &str, said: &str, is: String) {
         self.says("ours", asked, said, is);
@@ -73,8 +78,8 @@ fn entries() -> Vec<Entry> {
     [
         frames::entries(),
         fields::entries(),
-        bias1059::entries(),
-        bias1230::entries(),
+        biases::msg1059::entries(),
+        biases::msg1230::entries(),
         tables::entries(),
     ]
     .into_iter()
@@ -157,14 +162,4 @@ fn refusal(told: &Told) -> Option<String> {
     } else {
         name.to_string()
     })
-}
-
-/// A number read, in words.
-fn number(answer: Result<i128, Refused>) -> String {
-    answer.map_or_else(str::to_string, |value| value.to_string())
-}
-
-/// What a write left, in words.
-fn left(answer: Result<Vec<u8>, Refused>) -> String {
-    answer.map_or_else(str::to_string, |data| hex(&data))
 }

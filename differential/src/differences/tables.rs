@@ -1,8 +1,8 @@
 //! Entries on the signal tables.
 use super::Entry;
-use crate::builds::BUILDS;
 use crate::pv::{self, Lists};
 use crate::rust;
+use shapes::{Bias, Block};
 
 const GPS: u32 = 0;
 
@@ -12,38 +12,19 @@ pub fn entries() -> Vec<Entry> {
 
 fn partial_order() -> Entry {
     let mut entry = Entry::new("T1", "PartialOrd and Ord");
-    for (a, b, name, theirs, ours) in [
-        (
-            (1, 'A'),
-            (1, 'A'),
-            "gps 1A and 1A",
-            "partial_cmp None, cmp Equal",
-            "0",
-        ),
-        (
-            (1, 'A'),
-            (1, 'B'),
-            "gps 1A and 1B",
-            "partial_cmp None, cmp Less",
-            "-1",
-        ),
-        (
-            (1, 'A'),
-            (1, 'C'),
-            "gps 1A and 1C",
-            "partial_cmp None, cmp Greater",
-            "1",
-        ),
+    for (letter, theirs, ours) in [
+        ('A', "partial_cmp None, cmp Equal", "0"),
+        ('B', "partial_cmp None, cmp Less", "-1"),
+        ('C', "partial_cmp None, cmp Greater", "1"),
     ] {
-        for build in &BUILDS {
-            let (order, partial) = build.order(GPS, a, b);
+        let asked = format!("gps 1A and 1{letter}");
+        entry.builds(&asked, theirs, |build| {
+            let (order, partial) = build.order(GPS, (1, 'A'), (1, letter));
             let partial = partial.map_or("None".to_string(), |order| format!("{order:?}"));
-            let is = format!("partial_cmp {partial}, cmp {order:?}");
-            entry.says(build.name, name, theirs, is);
-        }
-        let number = |signal: (u8, char)| (signal.0 as u32, signal.1 as u32);
-        let told = pv::signal_order(GPS, number(a), number(b));
-        entry.ours(name, ours, (told.extra[0] as i64).to_string());
+            format!("partial_cmp {partial}, cmp {order:?}")
+        });
+        let told = pv::signal_order(GPS, (1, 'A' as u32), (1, letter as u32));
+        entry.ours(&asked, ours, (told.extra[0] as i64).to_string());
     }
     entry
 }
@@ -53,24 +34,22 @@ fn no_2d() -> Entry {
     let asked = "the gps number of 2D";
     let is = rust::number_of(GPS, 2, 'D').map_or("None".to_string(), |number| number.to_string());
     entry.says("the Rust", asked, "None", is);
-    let told = pv::number_of(GPS, 2, b'D' as u32);
-    let is = if told.extra[0] == 0 {
-        "None"
-    } else {
-        "a number"
+    let told = pv::number_of(GPS, 2, 'D' as u32);
+    let is = match told.extra[0] {
+        0 => "None",
+        _ => "a number",
     };
     entry.ours(asked, "None", is.to_string());
     let data = [0x04, 0x00, 0x98, 0x00, 0x10];
     let asked = "04 00 98 00 10";
-    for build in &BUILDS {
-        let is = match build.read_1059(&data, 0) {
-            Ok((records, _)) => format!("signal {}{}", records[0].band, records[0].letter),
-            Err(error) => error.to_string(),
-        };
-        entry.says(build.name, asked, "signal 2D", is);
-    }
+    entry.builds(asked, "signal 2D", |build| {
+        let (records, _) = build.read_block(Block::Msg1059, &data, 0);
+        let signal =
+            |records: Vec<Bias>| format!("signal {}{}", records[0].band, records[0].letter);
+        records.map_or_else(str::to_string, signal)
+    });
     let mut lists = Lists::unwritten(1);
-    pv::read_1059(&data, 0, &mut lists);
+    pv::read_block(Block::Msg1059, &data, 0, &mut lists);
     entry.ours(asked, "signal 6", format!("signal {}", lists.signals[0]));
     entry
 }

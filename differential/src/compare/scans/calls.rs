@@ -2,7 +2,7 @@
 use super::scanner::{Scanner, PATTERN};
 use crate::area::{hex, smaller_bytes, Case, Smaller};
 use crate::pv::Told;
-use crate::rust;
+use crate::rust::CHECKED;
 use crate::streams::PREAMBLE;
 use shapes::Refused;
 
@@ -40,7 +40,7 @@ impl Call {
             let judged = if not_preamble {
                 Err("NotValid")
             } else {
-                rust::frame(bytes)
+                CHECKED.frame(bytes)
             };
             let frame_len = match judged {
                 Err("Incomplete") if taken < self.piece.len() => {
@@ -74,7 +74,7 @@ impl Call {
     /// Whether `next_msg_frame` over the held bytes and the piece tells of the same frame and place.
     fn agrees(&self, done: &Done) -> bool {
         let joined = [&self.held[..], &self.piece[..]].concat();
-        let Ok((consumed, frame)) = rust::next_frame(&joined) else {
+        let Ok((consumed, frame)) = CHECKED.next_frame(&joined) else {
             return false;
         };
         let [is_frame, _, skipped, _, frame_len, ..] = done.told.extra;

@@ -1,7 +1,7 @@
 //! A whole stream, fed in pieces.
 use super::scanner::Scanner;
 use crate::area::{hex, smaller_bytes, Case, Smaller};
-use crate::rust;
+use crate::rust::CHECKED;
 use shapes::Refused;
 
 /// A whole stream, fed in pieces whose lengths repeat.
@@ -31,7 +31,7 @@ impl Fed {
 impl Pieces {
     /// What feeding must give: the frames of `MsgFrameIter`, and the rest from where it stopped.
     fn expected(&self) -> Result<Fed, Refused> {
-        let scanned = rust::scan(&self.bytes)?;
+        let scanned = CHECKED.scan(&self.bytes)?;
         let frame = |(place, len): &(usize, usize)| self.bytes[*place..place + len].to_vec();
         let frames: Vec<Vec<u8>> = scanned.frames.iter().map(frame).collect();
         let in_frames: usize = frames.iter().map(Vec::len).sum();

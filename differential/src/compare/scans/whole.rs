@@ -1,7 +1,7 @@
 //! A whole stream, scanned by repeated frame checks.
 use crate::area::{hex, smaller_bytes, Case, Smaller};
 use crate::pv;
-use crate::rust;
+use crate::rust::CHECKED;
 use crate::streams::PREAMBLE;
 use shapes::{Refused, Scanned};
 
@@ -37,7 +37,7 @@ impl Stream {
 
     /// What `next_msg_frame` gives first: the frame's place and length, and the bytes consumed.
     fn first(&self) -> Result<Scanned, Refused> {
-        let (consumed, frame) = rust::next_frame(&self.bytes)?;
+        let (consumed, frame) = CHECKED.next_frame(&self.bytes)?;
         let frames = frame.map(|frame| (frame.frame_at, frame.frame_len));
         Ok(Scanned {
             frames: frames.into_iter().collect(),
@@ -48,7 +48,7 @@ impl Stream {
 
 impl Case for Stream {
     fn difference(&self) -> Option<String> {
-        let theirs = rust::scan(&self.bytes);
+        let theirs = CHECKED.scan(&self.bytes);
         let ours = self.scanned();
         if theirs.as_ref() != Ok(&ours) {
             return Some(format!("the Rust {theirs:?}, ours {ours:?}"));
