@@ -3,9 +3,9 @@
 #   make                     libpeerivolt.a and libpeerivolt.so
 #   make install PREFIX=..   archive, shared object, header and pkg-config file
 #   make check               the C tests: plain, under sanitizers, and under valgrind where it is there
-#   make relay               the example relay, build/../opt/relay
+#   make relay               the example relay, build/peerivolt/opt/relay
 #   make bench               the benchmark against a plain C program, and against the Rust where it is there
-#   make differential        the runs against the Rust, where its source and cargo are there
+#   make differential        the runs against the Rust, where its source, cargo and Debian's librust-tinyvec-dev are there
 #   make lint                clang and cppcheck over the C files, where they are there
 #   make clean
 #

@@ -365,7 +365,10 @@ static size_t piece_length(size_t kind)
     return kind == 0 ? 1 : kind == 1 ? 1 + below(10) : kind == 2 ? below(200) : kind == 3 ? 1460 : STREAM_MAX;
 }
 
-/* Feeds a whole stream in pieces of one kind, each until More, and holds the outcome to the scan of the whole stream. */
+/*
+ * Feeds a whole stream in pieces of one kind, each until More, and holds the outcome to the scan of the whole stream. A
+ * call whose extra area has another size is refused, and made again.
+ */
 static void try_stream(void)
 {
     struct outcome outcome = { 0, 0, 0, 0, 0 };
@@ -378,21 +381,19 @@ static void try_stream(void)
     while (place < n) {
         size_t want = piece_length(kind);
         size_t end = want < n - place ? place + want : n;
-        const uint64_t *numbers;
-        do {
+        for (;;) {
             lend(&piece, end - place);
             fill(&piece, stream + place);
-            if (feed_both(held_count) != PV_ACCEPTED) {
-                numbers = NULL;
+            if (feed_both(held_count) != PV_ACCEPTED)
                 continue;
-            }
-            numbers = area_u64(&extra.ours);
+            const uint64_t *numbers = area_u64(&extra.ours);
             held_count = numbers[PV_AT_FED_HELD_COUNT];
             place += numbers[PV_AT_FED_TAKEN];
             outcome.skipped += numbers[PV_AT_FED_SKIPPED];
-            if (numbers[PV_AT_FED_IS_FRAME] == PV_FRAME)
-                add_frame(&outcome, out.ours.bytes, numbers[PV_AT_FED_FRAME_LENGTH]);
-        } while (numbers == NULL || numbers[PV_AT_FED_IS_FRAME] == PV_FRAME);
+            if (numbers[PV_AT_FED_IS_FRAME] != PV_FRAME)
+                break;
+            add_frame(&outcome, out.ours.bytes, numbers[PV_AT_FED_FRAME_LENGTH]);
+        }
         CHECK_EQ(outcome.frame_bytes + outcome.skipped + held_count, place);
     }
     outcome.held = held_count;

@@ -30,11 +30,11 @@ skipped() {
     exit 0
 }
 
-command -v cargo >/dev/null 2>&1 || skipped "cargo is missing"
+command -v cargo >/dev/null 2>&1 || skipped "cargo is missing (of Rust 1.82 or later)"
 [ -f "$RTCM_RS_SOURCE/src/lib.rs" ] || [ -f "$RTCM_RS_SOURCE/lib.rs" ] ||
     skipped "no source of rtcm-rs in $RTCM_RS_SOURCE (set RTCM_RS_SOURCE)"
 ls -d /usr/share/cargo/registry/tinyvec-1.* >/dev/null 2>&1 ||
-    skipped "tinyvec is missing (Debian's librust-tinyvec-dev)"
+    skipped "tinyvec is missing (on Debian: apt-get install librust-tinyvec-dev)"
 
 if [ "${1:-}" = rust-archive ]; then
     cd "$folder"

@@ -81,12 +81,10 @@ pub fn scan(bytes: &[u8]) -> Scanned {
     }
 }
 
-/// `MsgFrameIter` to its first `None`, where only the number of frames and the bytes consumed are wanted.
+/// `MsgFrameIter` to its first `None`, where only the number of frames is wanted.
 #[inline(never)]
-pub fn count_frames(bytes: &[u8]) -> (usize, usize) {
-    let mut iter = MsgFrameIter::new(bytes);
-    let frames = (&mut iter).count();
-    (frames, iter.consumed())
+pub fn count_frames(bytes: &[u8]) -> usize {
+    MsgFrameIter::new(bytes).count()
 }
 
 /// `MessageBuilder` over a message whose content is the given bits behind its number.

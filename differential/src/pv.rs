@@ -2,7 +2,7 @@
 use shapes::{Block, Reading};
 
 /// Numbers in the extra area.
-pub const EXTRA: usize = 8;
+const EXTRA: usize = 8;
 /// Bytes in a scanner's held area, and in the longest frame.
 pub const HELD: usize = 1_029;
 /// Bytes in the longest data area.

@@ -5,11 +5,12 @@ use crate::pv;
 use crate::random::Random;
 use crate::rust::{self, CHECKED};
 use crate::streams::{any_frame, any_len, any_stream, damaged, framed, PREAMBLE};
-use shapes::{Block, FieldType, Reading, Refused};
+use shapes::{Block, FieldType, Refused, READINGS};
 use std::cmp::Ordering;
 use std::io::Write;
 use std::path::Path;
 
+// The kinds of records; those of fields in the order of `READINGS`.
 pub const LAST: u8 = 0x00;
 pub const FRAME: u8 = 0x01;
 pub const SCAN: u8 = 0x02;
@@ -24,9 +25,6 @@ pub const NUMBER_OF: u8 = 0x0E;
 pub const ORDER: u8 = 0x0F;
 pub const METRES_1059: u8 = 0x10;
 pub const METRES_1230: u8 = 0x11;
-
-/// The three readings in the order of their kinds.
-pub const READINGS: [Reading; 3] = [Reading::Unsigned, Reading::Twos, Reading::SignMagnitude];
 
 /// Bytes that the longest record may have.
 const LONGEST: usize = 4_096;

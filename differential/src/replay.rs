@@ -1,8 +1,8 @@
 //! Replays a list of recorded answers against libpeerivolt.a, as a program without Rust would.
 use crate::blocks::{self, Raw};
 use crate::pv::{self, Lists, Told};
-use crate::record::{self, READINGS};
-use shapes::{Block, Scanned};
+use crate::record;
+use shapes::{Block, Scanned, READINGS};
 use std::path::Path;
 
 /// What is left of a record.

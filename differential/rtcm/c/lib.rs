@@ -33,13 +33,6 @@ fn unsigned(width: usize) -> FieldType {
 /// # Safety
 /// The area is valid.
 #[no_mangle]
-pub unsafe extern "C" fn rs_crc24q(bytes: *const u8, len: usize) -> u32 {
-    calls::checksum(area(bytes, len))
-}
-
-/// # Safety
-/// The area is valid.
-#[no_mangle]
 pub unsafe extern "C" fn rs_field_read(
     data: *const u8,
     len: usize,
@@ -81,37 +74,7 @@ pub unsafe extern "C" fn rs_frame_check(bytes: *const u8, len: usize) -> usize {
 /// The area is valid.
 #[no_mangle]
 pub unsafe extern "C" fn rs_scan(bytes: *const u8, len: usize) -> usize {
-    calls::count_frames(area(bytes, len)).0
-}
-
-/// The bytes that a Rust program keeps between pieces.
-pub struct Stream {
-    bytes: Vec<u8>,
-}
-
-#[no_mangle]
-pub extern "C" fn rs_stream_new() -> Box<Stream> {
-    Box::new(Stream { bytes: Vec::new() })
-}
-
-/// # Safety
-/// The stream is one that `rs_stream_new` gave and `rs_stream_free` was not given; the area is valid.
-#[no_mangle]
-pub unsafe extern "C" fn rs_stream_feed(
-    stream: *mut Stream,
-    piece: *const u8,
-    len: usize,
-) -> usize {
-    let bytes = &mut (*stream).bytes;
-    bytes.extend_from_slice(area(piece, len));
-    let (frames, consumed) = calls::count_frames(bytes);
-    bytes.drain(..consumed);
-    frames
-}
-
-#[no_mangle]
-pub extern "C" fn rs_stream_free(stream: Box<Stream>) {
-    drop(stream);
+    calls::count_frames(area(bytes, len))
 }
 
 /// # Safety

@@ -9,8 +9,6 @@
 #include <stddef.h>
 #include <stdint.h>
 
-uint32_t rs_crc24q(const uint8_t *bytes, size_t len);
-
 /* A field in the crate's smallest unsigned type for the width (1 to 64): its value, and the end bit after a write. */
 uint64_t rs_field_read(const uint8_t *data, size_t len, size_t start, size_t width);
 size_t rs_field_write(uint8_t *data, size_t len, size_t start, size_t width, uint64_t value);
@@ -20,15 +18,6 @@ size_t rs_frame_check(const uint8_t *bytes, size_t len);
 
 /* MsgFrameIter over a whole stream: the number of frames. */
 size_t rs_scan(const uint8_t *bytes, size_t len);
-
-/*
- * A stream in pieces, as a program over MsgFrameIter does it: the piece is put behind the bytes that are kept, the
- * iterator goes over all of them, and what it consumed is removed. Gives the number of frames.
- */
-struct rs_stream;
-struct rs_stream *rs_stream_new(void);
-size_t rs_stream_feed(struct rs_stream *stream, const uint8_t *piece, size_t len);
-void rs_stream_free(struct rs_stream *stream);
 
 /* The blocks' decode: the number of records. */
 size_t rs_1059_read(const uint8_t *data, size_t len, size_t start);

@@ -15,6 +15,8 @@ pub enum Reading {
     SignMagnitude,
 }
 
+pub const READINGS: [Reading; 3] = [Reading::Unsigned, Reading::Twos, Reading::SignMagnitude];
+
 /// A type of `bit_value.rs`: how it is read, and its bits (8, 16, 32, 64 or 128).
 #[derive(Clone, Copy, Debug, PartialEq, Eq)]
 pub struct FieldType {

@@ -169,7 +169,7 @@ impl Areas {
         }
     }
 
-    /// Compares a write into random data and a read of what it wrote, if it is in the domain. Gives what it wrote.
+    /// Compares a write and a read of what it wrote, if it is in the domain. Gives the data after it.
     fn write(&mut self, list: Vec<Raw>, mut data: Vec<u8>, start: usize) -> Option<Vec<u8>> {
         let write = Write {
             block: self.block,

@@ -34,18 +34,14 @@ impl Case for Bytes {
 /// What the frame check must answer where the crate answers this, or nothing if nothing would be right.
 ///
 /// Where the data are shorter than two bytes the message number is outside the domain: there is none.
-pub fn expected(theirs: &Result<Frame, Refused>) -> Option<Told> {
+fn expected(theirs: &Result<Frame, Refused>) -> Option<Told> {
     match theirs {
         Err("Incomplete") => Some(Told::refused(pv::INCOMPLETE, 0)),
         Err("NotValid") => Some(Told::refused(pv::NOT_VALID, 0)),
         Err(_) => None,
         Ok(frame) if frame.frame_at != 0 || frame.data_at != 3 => None,
         Ok(frame) => {
-            let number = if frame.data_len >= 2 {
-                frame.number
-            } else {
-                None
-            };
+            let number = frame.number.filter(|_| frame.data_len >= 2);
             Some(Told::accepted(&[
                 frame.frame_len as u64,
                 frame.data_len as u64,

@@ -4,7 +4,7 @@ use crate::area::{hex, smaller_bytes, Case, Smaller};
 use crate::pv::Told;
 use crate::rust::CHECKED;
 use crate::streams::PREAMBLE;
-use shapes::Refused;
+use shapes::{Frame, Refused};
 
 /// One call of the scanner from any held bytes.
 #[derive(Clone)]
@@ -28,6 +28,14 @@ impl Done {
     }
 }
 
+/// What `MessageFrame::new` says of the bytes, after the first one that is there is found to be the preamble.
+fn judged(bytes: &[u8]) -> Result<Frame, Refused> {
+    match bytes.first() {
+        Some(first) if *first != PREAMBLE => Err("NotValid"),
+        _ => CHECKED.frame(bytes),
+    }
+}
+
 impl Call {
     /// The call byte by byte, `MessageFrame::new` deciding.
     fn expected(&self) -> Result<Done, Refused> {
@@ -35,14 +43,7 @@ impl Call {
         let mut front = 0;
         let mut taken = 0;
         loop {
-            let bytes = &held[front..];
-            let not_preamble = bytes.first().is_some_and(|first| *first != PREAMBLE);
-            let judged = if not_preamble {
-                Err("NotValid")
-            } else {
-                CHECKED.frame(bytes)
-            };
-            let frame_len = match judged {
+            let frame_len = match judged(&held[front..]) {
                 Err("Incomplete") if taken < self.piece.len() => {
                     held.push(self.piece[taken]);
                     taken += 1;
