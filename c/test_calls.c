@@ -63,20 +63,6 @@ static void lend_bytes(struct area *area, const uint8_t *bytes, size_t n)
     CHECK((area).size >= sizeof((const uint8_t[]){ __VA_ARGS__ }) &&                                                   \
           memcmp((area).bytes, (const uint8_t[]){ __VA_ARGS__ }, sizeof((const uint8_t[]){ __VA_ARGS__ })) == 0)
 
-static void lend_1059(size_t n)
-{
-    area_lend(&satellites, n, 0);
-    area_lend(&signals, n, 0);
-    area_lend(&biases, 2 * n, 0);
-}
-
-static void set_1059(size_t i, unsigned satellite, unsigned signal, int bias)
-{
-    satellites.bytes[i] = (uint8_t)satellite;
-    signals.bytes[i] = (uint8_t)signal;
-    area_i16(&biases)[i] = (int16_t)bias;
-}
-
 static void lend_1230(size_t n)
 {
     area_lend(&signals, n, 0);
@@ -87,6 +73,18 @@ static void set_1230(size_t i, unsigned signal, int bias)
 {
     signals.bytes[i] = (uint8_t)signal;
     area_i16(&biases)[i] = (int16_t)bias;
+}
+
+static void lend_1059(size_t n)
+{
+    area_lend(&satellites, n, 0);
+    lend_1230(n);
+}
+
+static void set_1059(size_t i, unsigned satellite, unsigned signal, int bias)
+{
+    satellites.bytes[i] = (uint8_t)satellite;
+    set_1230(i, signal, bias);
 }
 
 #define SIGNED(number) ((uint64_t)(int64_t)(number))

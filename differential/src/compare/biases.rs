@@ -57,8 +57,10 @@ impl Case for Read {
             }
             Err(_) => false,
         };
-        let records = theirs.map(|records| records.len());
-        (!same).then(|| format!("the Rust {records:?} at bit {place}, ours {told:?}"))
+        let theirs = theirs.map(|records| (records.len(), records.first().copied()));
+        let first = (lists.satellites[0], lists.signals[0], lists.biases[0]);
+        (!same)
+            .then(|| format!("the Rust {theirs:?} at bit {place}, ours {told:?}, first {first:?}"))
     }
 
     fn smaller(&self) -> Smaller<'_, Read> {

@@ -8,26 +8,24 @@ use shapes::{Frame, Refused};
 
 /// Bytes that both sides are asked to check. Any bytes are in the domain.
 #[derive(Clone)]
-struct Bytes {
-    bytes: Vec<u8>,
-}
+struct Bytes(Vec<u8>);
 
 impl Case for Bytes {
     fn difference(&self) -> Option<String> {
-        let theirs = CHECKED.frame(&self.bytes);
+        let theirs = CHECKED.frame(&self.0);
         let Some(expected) = expected(&theirs) else {
             return Some(format!("the Rust answers {theirs:?}"));
         };
-        let ours = pv::frame_check(&self.bytes);
+        let ours = pv::frame_check(&self.0);
         (ours != expected).then(|| format!("the Rust {theirs:?}, ours {ours:?}"))
     }
 
     fn smaller(&self) -> Smaller<'_, Bytes> {
-        Box::new(smaller_bytes(&self.bytes).map(|bytes| Bytes { bytes }))
+        Box::new(smaller_bytes(&self.0).map(Bytes))
     }
 
     fn show(&self) -> String {
-        hex(&self.bytes)
+        hex(&self.0)
     }
 }
 
@@ -66,14 +64,14 @@ pub fn run(random: &mut Random) -> Vec<Area> {
 /// All bytes up to two, and any first two bytes in up to nine.
 fn short(random: &mut Random) -> Area {
     let mut area = Area::new("frame check: short bytes");
-    area.compare(&Bytes { bytes: Vec::new() });
+    area.compare(&Bytes(Vec::new()));
     for first in 0..=255 {
-        area.compare(&Bytes { bytes: vec![first] });
+        area.compare(&Bytes(vec![first]));
         for second in 0..=255 {
             for len in 2..10 {
                 let mut bytes = random.bytes(len);
                 bytes[..2].copy_from_slice(&[first, second]);
-                area.compare(&Bytes { bytes });
+                area.compare(&Bytes(bytes));
             }
         }
     }
@@ -83,11 +81,9 @@ fn short(random: &mut Random) -> Area {
 /// The frame without data under each of the 2^24 checksums.
 fn empty_frames() -> Area {
     let mut area = Area::new("frame check: no data, every checksum");
-    let mut case = Bytes {
-        bytes: vec![PREAMBLE, 0, 0, 0, 0, 0],
-    };
+    let mut case = Bytes(vec![PREAMBLE, 0, 0, 0, 0, 0]);
     for sum in 0..1u32 << 24 {
-        case.bytes[3..].copy_from_slice(&sum.to_be_bytes()[1..]);
+        case.0[3..].copy_from_slice(&sum.to_be_bytes()[1..]);
         area.compare(&case);
     }
     area
@@ -99,18 +95,12 @@ fn headers(random: &mut Random) -> Area {
     for header in 0..=u16::MAX {
         let [reserved, low] = header.to_be_bytes();
         let six = random.bytes(3);
-        area.compare(&Bytes {
-            bytes: [&[PREAMBLE, reserved, low], &six[..]].concat(),
-        });
+        area.compare(&Bytes([&[PREAMBLE, reserved, low], &six[..]].concat()));
         let data = random.bytes((header & 0x3FF) as usize);
         let whole = framed(&data, reserved);
-        area.compare(&Bytes {
-            bytes: whole[..whole.len() - 1].to_vec(),
-        });
-        area.compare(&Bytes {
-            bytes: damaged(random, &whole),
-        });
-        area.compare(&Bytes { bytes: whole });
+        area.compare(&Bytes(whole[..whole.len() - 1].to_vec()));
+        area.compare(&Bytes(damaged(random, &whole)));
+        area.compare(&Bytes(whole));
     }
     area
 }
@@ -122,11 +112,9 @@ fn numbers(random: &mut Random) -> Area {
         let data = number.to_be_bytes();
         for data in [&data[..], &data[1..]] {
             let mut bytes = framed(data, 0);
-            area.compare(&Bytes {
-                bytes: bytes.clone(),
-            });
+            area.compare(&Bytes(bytes.clone()));
             bytes.push(random.byte());
-            area.compare(&Bytes { bytes });
+            area.compare(&Bytes(bytes));
         }
     }
     area
@@ -142,16 +130,12 @@ fn every_length(random: &mut Random) -> Area {
             let followed = [frame.clone(), random.bytes(behind)].concat();
             for cut in [0, 5, 6, len + 3, len + 5, len + 6, len + 7] {
                 let cut = cut.min(followed.len());
-                area.compare(&Bytes {
-                    bytes: followed[..cut].to_vec(),
-                });
+                area.compare(&Bytes(followed[..cut].to_vec()));
             }
             for _ in 0..12 {
-                area.compare(&Bytes {
-                    bytes: damaged(random, &followed),
-                });
+                area.compare(&Bytes(damaged(random, &followed)));
             }
-            area.compare(&Bytes { bytes: followed });
+            area.compare(&Bytes(followed));
         }
     }
     area

@@ -37,6 +37,15 @@ fn judged(bytes: &[u8]) -> Result<Frame, Refused> {
 }
 
 impl Call {
+    /// The call that has the first bytes held and the rest in its piece.
+    pub fn cut(bytes: &[u8], held: usize) -> Call {
+        let (held, piece) = bytes.split_at(held.min(bytes.len()));
+        Call {
+            held: held.to_vec(),
+            piece: piece.to_vec(),
+        }
+    }
+
     /// The call byte by byte, `MessageFrame::new` deciding.
     fn expected(&self) -> Result<Done, Refused> {
         let mut held = self.held.clone();

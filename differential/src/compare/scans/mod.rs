@@ -28,6 +28,18 @@ pub fn run(random: &mut Random, recordings: &Path) -> Vec<Area> {
     vec![whole, pieces, calls]
 }
 
+/// Compares on the stream, fed in pieces of each of the lists of lengths.
+fn in_pieces(pieces: &mut Area, bytes: Vec<u8>, lists: impl IntoIterator<Item = Vec<usize>>) {
+    let mut case = Pieces {
+        bytes,
+        lens: Vec::new(),
+    };
+    for lens in lists {
+        case.lens = lens;
+        pieces.compare(&case);
+    }
+}
+
 /// All strings of up to eight bytes out of those of the frame without data.
 fn short(whole: &mut Area, pieces: &mut Area, calls: &mut Area) {
     const ALPHABET: [u8; 5] = [0x00, 0x47, 0xEA, 0x4B, PREAMBLE];
@@ -35,18 +47,9 @@ fn short(whole: &mut Area, pieces: &mut Area, calls: &mut Area) {
         for number in 0..5usize.pow(len) {
             let byte = |place: u32| ALPHABET[number / 5usize.pow(place) % 5];
             let bytes: Vec<u8> = (0..len).map(byte).collect();
-            whole.compare(&Stream {
-                bytes: bytes.clone(),
-            });
-            pieces.compare(&Pieces {
-                bytes: bytes.clone(),
-                lens: vec![1 + number % 3],
-            });
-            let held = bytes.len().min(number % 9);
-            calls.compare(&Call {
-                held: bytes[..held].to_vec(),
-                piece: bytes[held..].to_vec(),
-            });
+            whole.compare(&Stream(bytes.clone()));
+            calls.compare(&Call::cut(&bytes, number % 9));
+            in_pieces(pieces, bytes, [vec![1 + number % 3]]);
         }
     }
 }
@@ -56,35 +59,15 @@ fn mixed(random: &mut Random, whole: &mut Area, pieces: &mut Area) {
     for _ in 0..4_000 {
         let len = random.below(3_000);
         let bytes = any_stream(random, len);
-        whole.compare(&Stream {
-            bytes: bytes.clone(),
-        });
+        whole.compare(&Stream(bytes.clone()));
         let some: Vec<usize> = (0..5).map(|_| random.within(1, 1_200)).collect();
-        for lens in [
-            vec![1],
-            vec![7],
-            vec![100],
-            vec![1_460],
-            vec![pv::PIECE],
-            some,
-        ] {
-            pieces.compare(&Pieces {
-                bytes: bytes.clone(),
-                lens,
-            });
-        }
+        let lens = [1, 7, 100, 1_460, pv::PIECE].map(|len| vec![len]);
+        in_pieces(pieces, bytes, lens.into_iter().chain([some]));
     }
     for len in [1, 6, 984, 985, 986, 1_028, 1_029, 1_030, 3_000] {
         let bytes = vec![PREAMBLE; len];
-        whole.compare(&Stream {
-            bytes: bytes.clone(),
-        });
-        for lens in [vec![1], vec![1_000], vec![pv::PIECE]] {
-            pieces.compare(&Pieces {
-                bytes: bytes.clone(),
-                lens,
-            });
-        }
+        whole.compare(&Stream(bytes.clone()));
+        in_pieces(pieces, bytes, [1, 1_000, pv::PIECE].map(|len| vec![len]));
     }
 }
 
@@ -95,27 +78,16 @@ fn around_limits(random: &mut Random, pieces: &mut Area, calls: &mut Area) {
             let false_start = [PREAMBLE, 3, 0xFF, PREAMBLE, 0, 7, 0, 0];
             let frame = any_frame(random, len);
             let bytes = [&false_start[..before], &frame[..], &false_start].concat();
-            for lens in [vec![1], vec![1_028], vec![1_029], vec![pv::PIECE]] {
-                pieces.compare(&Pieces {
-                    bytes: bytes.clone(),
-                    lens,
-                });
+            for held in [0, 1, 1_027, 1_028, 1_029] {
+                calls.compare(&Call::cut(&bytes, held));
             }
-            for cut in [0, 1, 1_027, 1_028, 1_029] {
-                let cut = cut.min(bytes.len());
-                calls.compare(&Call {
-                    held: bytes[..cut].to_vec(),
-                    piece: bytes[cut..].to_vec(),
-                });
-            }
+            let lens = [1, 1_028, 1_029, pv::PIECE].map(|len| vec![len]);
+            in_pieces(pieces, bytes, lens);
         }
     }
     for _ in 0..20 {
         let bytes = any_stream(random, 2 * pv::PIECE);
-        pieces.compare(&Pieces {
-            bytes,
-            lens: vec![pv::PIECE, pv::PIECE - 1],
-        });
+        in_pieces(pieces, bytes, [vec![pv::PIECE, pv::PIECE - 1]]);
     }
 }
 
@@ -153,15 +125,9 @@ fn recorded(folder: &Path, whole: &mut Area, pieces: &mut Area) -> usize {
             continue;
         };
         count += 1;
-        whole.compare(&Stream {
-            bytes: bytes.clone(),
-        });
-        for lens in [vec![1], vec![7, 100, 1_460], vec![pv::PIECE]] {
-            pieces.compare(&Pieces {
-                bytes: bytes.clone(),
-                lens,
-            });
-        }
+        whole.compare(&Stream(bytes.clone()));
+        let lens = [vec![1], vec![7, 100, 1_460], vec![pv::PIECE]];
+        in_pieces(pieces, bytes, lens);
     }
     count
 }

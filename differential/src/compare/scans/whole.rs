@@ -7,16 +7,14 @@ use shapes::{Refused, Scanned};
 
 /// A whole stream, scanned by repeated frame checks.
 #[derive(Clone)]
-pub struct Stream {
-    pub bytes: Vec<u8>,
-}
+pub struct Stream(pub Vec<u8>);
 
 impl Stream {
     /// The whole-stream scan by our frame check.
     fn scanned(&self) -> Scanned {
         let mut scanned = Scanned::default();
-        while scanned.consumed < self.bytes.len() {
-            let rest = &self.bytes[scanned.consumed..];
+        while scanned.consumed < self.0.len() {
+            let rest = &self.0[scanned.consumed..];
             if rest[0] != PREAMBLE {
                 scanned.consumed += 1;
                 continue;
@@ -37,7 +35,7 @@ impl Stream {
 
     /// What `next_msg_frame` gives first: the frame's place and length, and the bytes consumed.
     fn first(&self) -> Result<Scanned, Refused> {
-        let (consumed, frame) = CHECKED.next_frame(&self.bytes)?;
+        let (consumed, frame) = CHECKED.next_frame(&self.0)?;
         let frames = frame.map(|frame| (frame.frame_at, frame.frame_len));
         Ok(Scanned {
             frames: frames.into_iter().collect(),
@@ -48,7 +46,7 @@ impl Stream {
 
 impl Case for Stream {
     fn difference(&self) -> Option<String> {
-        let theirs = CHECKED.scan(&self.bytes);
+        let theirs = CHECKED.scan(&self.0);
         let ours = self.scanned();
         if theirs.as_ref() != Ok(&ours) {
             return Some(format!("the Rust {theirs:?}, ours {ours:?}"));
@@ -66,10 +64,10 @@ impl Case for Stream {
     }
 
     fn smaller(&self) -> Smaller<'_, Stream> {
-        Box::new(smaller_bytes(&self.bytes).map(|bytes| Stream { bytes }))
+        Box::new(smaller_bytes(&self.0).map(Stream))
     }
 
     fn show(&self) -> String {
-        hex(&self.bytes)
+        hex(&self.0)
     }
 }
