@@ -6,8 +6,6 @@
  */
 #include "test.h"
 
-#include "reference.h"
-
 struct recording {
     const char *name;
     size_t bytes, frames, skipped, held;

@@ -36,6 +36,14 @@ struct Write<'a> {
     asked: &'a str,
 }
 
+fn write(block: Block, zeros: usize, asked: &str) -> Write<'_> {
+    Write {
+        block,
+        zeros,
+        asked,
+    }
+}
+
 impl Write<'_> {
     /// A build's answer, and what it left.
     fn by(&self, build: &Build, records: &[Bias]) -> (Result<usize, Refused>, Vec<u8>) {

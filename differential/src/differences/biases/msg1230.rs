@@ -1,6 +1,8 @@
 //! Entries on the 1230 block.
-use super::{their_read, Entry, Write};
+use super::{their_read, write, Entry};
 use shapes::{Bias, Block};
+
+const BLOCK: Block = Block::Msg1230;
 
 pub fn entries() -> Vec<Entry> {
     vec![
@@ -11,15 +13,6 @@ pub fn entries() -> Vec<Entry> {
     ]
 }
 
-/// Writes of the block.
-fn write(zeros: usize, asked: &str) -> Write<'_> {
-    Write {
-        block: Block::Msg1230,
-        zeros,
-        asked,
-    }
-}
-
 fn doubled_signal() -> Entry {
     let mut entry = Entry::new("G1", "A signal twice");
     let asked = "1C = 1 and 1C = 2, into 5 zero bytes";
@@ -27,9 +20,9 @@ fn doubled_signal() -> Entry {
         "80 00 10 00 20, end bit 36",
         "Duplicate, carrying 1, nothing written",
     );
-    write(5, asked).both(&mut entry, &[(0, 2, 1), (0, 2, 2)], theirs, ours);
+    write(BLOCK, 5, asked).both(&mut entry, &[(0, 2, 1), (0, 2, 2)], theirs, ours);
     entry.builds("80 00 10 00 20", "1 record, end bit 20", |build| {
-        their_read(build, Block::Msg1230, &[0x80, 0x00, 0x10, 0x00, 0x20])
+        their_read(build, BLOCK, &[0x80, 0x00, 0x10, 0x00, 0x20])
     });
     entry
 }
@@ -38,7 +31,7 @@ fn over_four() -> Entry {
     let mut entry = Entry::new("G2", "Over four records");
     let asked = "five records of 1C = 0, into 20 zero bytes";
     let (theirs, ours) = ("panic, nothing written", "Size, nothing written");
-    write(20, asked).both(&mut entry, &[(0, 2, 0); 5], theirs, ours);
+    write(BLOCK, 20, asked).both(&mut entry, &[(0, 2, 0); 5], theirs, ours);
     entry
 }
 
@@ -49,16 +42,14 @@ fn partial_write() -> Entry {
         "BufferOverflow, yet 90 00 10 written",
         "Room, carrying 36, nothing written",
     );
-    write(3, asked).both(&mut entry, &[(0, 9, -1), (0, 2, 1)], theirs, ours);
+    write(BLOCK, 3, asked).both(&mut entry, &[(0, 9, -1), (0, 2, 1)], theirs, ours);
     entry
 }
 
 fn first_signal() -> Entry {
     let mut entry = Entry::new("G4", "Which signal is refused");
-    let write = write(
-        9,
-        "first 1C = 0, then 3C = 0 (4 in ours), into 9 zero bytes",
-    );
+    let asked = "first 1C = 0, then 3C = 0 (4 in ours), into 9 zero bytes";
+    let write = write(BLOCK, 9, asked);
     let record = |band| Bias {
         satellite: 0,
         band,
