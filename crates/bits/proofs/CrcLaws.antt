@@ -56,11 +56,6 @@ unfolding crcBit
 bit-below c =
     xor-lt 24 (c / 2 ^ 23 % 2 * 0x864CFB) (c * 2 % 2 ^ 24) (omega arith) (mod-lt (c * 2) (pow-pos 24))
 
-pub bits-below : (n c : ℕ) → c < 2 ^ 24 → crcBits n c < 2 ^ 24
-unfolding crcBits
-bits-below zero c h = h
-bits-below (suc n) c h = bit-below (crcBits n c)
-
 pub byte-below : (c b : ℕ) → crcByte c b < 2 ^ 24
 unfolding crcByte crcBits
 byte-below c b = bit-below (crcBits 7 (bitXor (b * 2 ^ 16) c))

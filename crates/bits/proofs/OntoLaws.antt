@@ -1,18 +1,13 @@
 -- Writing over an area, one part behind another. Assumes nothing.
 use mathlib.Core.Path.{_≡_, sym, ap, ap₂, _∙_}
 use mathlib.Core.List.{List, _++_}
-use Prim.Native.Nat.{ℕ, _+_, _≤_}
+use Prim.Native.Nat.{ℕ, _+_}
 use native.Mathlib.Nat.{zero-add}
-use native.Mathlib.Omega.{arith}
-use lib.ListN.{length, drop, length-append, length-drop}
+use lib.ListN.{length, drop, length-append}
 use lib.Seq.{take-at, drop-append-add, drop-drop}
 use Rattle.bits.specs.Onto.{onto, over}
 
 module _ {A : Type 0} where
-  -- the length stays
-  pub length-onto : (xs d : List A) → length xs ≤ length d → length (onto xs d) ≡ length d
-  length-onto xs d h = simp (length-append, length-drop) (omega arith)
-
   pub over-zero : (xs d : List A) → over 0 xs d ≡ onto xs d
   over-zero xs d = rw zero-add
 

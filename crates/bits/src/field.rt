@@ -1,11 +1,8 @@
 // Reading and writing one field of 1 to 64 bits, unsigned, in two's complement or as sign and magnitude.
 ghost use mathlib.Core.Path.{_≡_};
-ghost use mathlib.Core.Bool.{cond};
 ghost use Prim.Native.Nat.{_+_, _*_, _≤_};
 ghost use lib.ListN.{length};
-ghost use lib.Dec.{ltb};
-ghost use Rattle.bits.specs.Told.{Accepted, room};
-ghost use Rattle.bits.specs.Field.{readUnsigned, readTwos, readSignmag, wrote, writeUnsigned, writeTwos, writeSignmag, putField};
+ghost use Rattle.bits.specs.Field.{readUnsigned, readTwos, readSignmag, wrote, writeUnsigned, writeTwos, writeSignmag};
 ghost use Rattle.bits.specs.Answers.{toldUnsigned, toldSigned, toldWritten};
 ghost use Rattle.bits.specs.Steps.{groundOf, placed};
 use crate::raw;

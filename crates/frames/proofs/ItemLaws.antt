@@ -1,11 +1,11 @@
 -- What is read off joined items, and the bytes of items counted. Assumes nothing.
 use mathlib.Core.Path.{_≡_, refl, sym, ap, _∙_}
 use mathlib.Core.List.{List, [], _∷_, _++_, append-assoc}
-use Prim.Native.Nat.{ℕ, suc, _+_}
-use native.Mathlib.Nat.{add-zero, zero-add, suc-add}
+use Prim.Native.Nat.{suc, _+_}
+use native.Mathlib.Nat.{zero-add, suc-add}
 use native.Mathlib.Omega.{arith}
 use lib.ListN.{length, length-append}
-use Rattle.frames.specs.Scan.{Item, Skipped, Framed, itemBytes, bytesOf, framesOf, skippedOf, framed, placed}
+use Rattle.frames.specs.Scan.{Item, Skipped, Framed, itemBytes, bytesOf, framesOf, skippedOf, framed}
 
 module _ {W K : Type 0} where
   pub bytes-append : (is js : List (Item W K)) → bytesOf (is ++ js) ≡ bytesOf is ++ bytesOf js
@@ -21,13 +21,6 @@ module _ {W K : Type 0} where
   skipped-append [] js = sym (zero-add _)
   skipped-append (Skipped w x ∷ is) js = ap suc (skipped-append is js) ∙ sym (suc-add (skippedOf is) (skippedOf js))
   skipped-append (Framed k f ∷ is) js = skipped-append is js
-
-  pub placed-append : (n : ℕ) (is js : List (Item W K)) → placed n (is ++ js) ≡ placed n is ++ placed (n + length (bytesOf is)) js
-  placed-append n [] js = rw add-zero
-  placed-append n (i ∷ is) js =
-      let m : ℕ = n + length (itemBytes i) in
-      let e : m + length (bytesOf is) ≡ n + length (bytesOf (i ∷ is)) = rw length-append (omega arith) in
-      ap (λ l. record { place = n; item = i } ∷ l) (placed-append m is js ∙ ap (λ z. placed m is ++ placed z js) e)
 
   -- the bytes of items are those in frames and those skipped
   pub length-items : (is : List (Item W K)) → length (bytesOf is) ≡ framed (framesOf is) + skippedOf is

@@ -1,14 +1,13 @@
 -- The law of joining: a stream may be scanned in two parts. No byte is lost on the way, and what is held waits. Assumes nothing.
 use mathlib.Core.Path.{_≡_, refl, ap}
 use mathlib.Core.List.{List, [], _∷_, _++_, append-assoc}
-use Prim.Native.Nat.{ℕ, zero, suc, _≤_, _<_, pred}
+use Prim.Native.Nat.{ℕ, zero, suc, _≤_, pred}
 use native.Mathlib.Nat.{le-of-suc-le-suc, not-suc-le-zero}
 use native.Mathlib.Omega.{arith}
 use lib.ListN.{length, take, drop, take-append-drop}
 use lib.Seq.{take-append-le}
 use Rattle.frames.specs.Scan.{Decision, Skip, Take, Wait, Skipped, Framed, holding, after, step, scanPast, scan, bytesOf}
-use Rattle.frames.specs.Framing.{Framing, decide, Lawful}
-use Rattle.frames.proofs.FramingLaws.{Decides, waits-short}
+use Rattle.frames.proofs.FramingLaws.{Decides}
 
 module _ {W K : Type 0} (d : List ℕ → Decision W K) where
   module _ (D : Decides d) where
@@ -54,23 +53,21 @@ module _ {W K : Type 0} (d : List ℕ → Decision W K) where
     pub every-byte : (s : List ℕ) → bytesOf (scan d s .items) ++ scan d s .held ≡ s
     every-byte s = whole-past 0 s (omega arith)
 
-  -- what can be said of bytes that wait, and of none, is said of what a scan holds
-  module _ (P : List ℕ → Type 0) (none : P []) (some : (x : ℕ) (xs : List ℕ) → d (x ∷ xs) ≡ Wait → P (x ∷ xs)) where
-    held-step : (x : ℕ) (xs : List ℕ) → ((m : ℕ) → P (scanPast d m xs .held)) → (q : Decision W K) → d (x ∷ xs) ≡ q → P (step q x xs (λ n. scanPast d n xs) .held)
-    held-step x xs ih (Skip w) e = ih 0
-    held-step x xs ih (Take k n) e = ih (pred n)
-    held-step x xs ih Wait e = some x xs e
+  -- bytes that give nothing by themselves
+  abbrev Waits : List ℕ → Type 0
+  Waits h = scan d h ≡ holding h
 
-    held-past : (m : ℕ) (s : List ℕ) → P (scanPast d m s .held)
-    held-past zero [] = none
-    held-past (suc m) [] = none
-    held-past (suc m) (x ∷ xs) = held-past m xs
-    held-past zero (x ∷ xs) = held-step x xs (λ m. held-past m xs) (d (x ∷ xs)) refl
+  held-step : (x : ℕ) (xs : List ℕ) → ((m : ℕ) → Waits (scanPast d m xs .held)) → (q : Decision W K) → d (x ∷ xs) ≡ q → Waits (step q x xs (λ n. scanPast d n xs) .held)
+  held-step x xs ih (Skip w) e = ih 0
+  held-step x xs ih (Take k n) e = ih (pred n)
+  held-step x xs ih Wait e = rw e
 
-  -- what a scan holds gives nothing by itself
+  held-past : (m : ℕ) (s : List ℕ) → Waits (scanPast d m s .held)
+  held-past zero [] = refl
+  held-past (suc m) [] = refl
+  held-past (suc m) (x ∷ xs) = held-past m xs
+  held-past zero (x ∷ xs) = held-step x xs (λ m. held-past m xs) (d (x ∷ xs)) refl
+
+  -- what a scan holds waits
   pub held-waits : (s : List ℕ) → scan d (scan d s .held) ≡ holding (scan d s .held)
-  held-waits s = held-past (λ h. scan d h ≡ holding h) refl (λ x xs e. rw e) 0 s
-
--- what a scan holds is fewer than 1,029 bytes
-pub held-short : {W K : Type 0} (F : Framing W K) → Lawful F → (s : List ℕ) → length (scan (decide F) s .held) < 1029
-held-short F L s = held-past (decide F) (λ h. length h < 1029) (omega arith) (λ x xs e. waits-short F L (x ∷ xs) e) 0 s
+  held-waits s = held-past 0 s

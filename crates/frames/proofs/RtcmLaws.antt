@@ -1,12 +1,12 @@
 -- RTCM 3 is a lawful framing, and it decides by the frame check. Assumes nothing.
-use mathlib.Core.Path.{_≡_, refl, sym, _∙_}
+use mathlib.Core.Path.{_≡_, refl}
 use mathlib.Core.Bool.{Bool, true, false, cond, not}
 use mathlib.Core.List.{List, [], _∷_, _++_}
 use Prim.Native.Nat.{ℕ, suc, _+_, _≤_, _<_}
 use native.Mathlib.Omega.{arith}
 use lib.ListN.{length, getD, List·getD-append}
 use lib.Dec.{leb, ltb, eqb}
-use borrow.Author.Tests.{le-leb, lt-leb, ltb-true, ltb-false, eqb-false}
+use borrow.Author.Tests.{le-leb, lt-leb, ltb-true, ltb-false}
 use Rattle.bits.specs.Told.{Accepted, notValid, incomplete}
 use Rattle.frames.specs.Scan.{Decision, Skip, Take, Wait}
 use Rattle.frames.specs.Framing.{Lawful, decide}
@@ -104,19 +104,3 @@ decides-at (x ∷ s) = go (eqb x 0xD3) refl
         rw e
         (by-length (x ∷ s) (ltb (length (x ∷ s)) 6) (ltb (length (x ∷ s)) (dataLength (x ∷ s) + 6)) refl refl (eqb (ownSum (x ∷ s)) (sentSum (x ∷ s))))
     go false e = rw (e, le-leb 1 (suc (length s)) (omega arith))
-
--- A D3 is skipped with the checksum sent and the one computed, and they differ.
-pub bad-check-tells : (s : List ℕ) (sent computed : ℕ) → decide rtcm s ≡ Skip (BadCheck sent computed) → (sent ≡ sentSum s) × (computed ≡ ownSum s) × (computed ≡ sent → ⊥)
-unfolding rtcm
-bad-check-tells s sent computed q =
-    go (leb (needIf (eqb (getD s 0 0) 0xD3) s) (length s)) (eqb (getD s 0 0) 0xD3) (eqb (ownSum s) (sentSum s)) refl q
-  where
-    go : (enough d3 agree : Bool) → eqb (ownSum s) (sentSum s) ≡ agree → cond enough (verdictIf d3 agree s) Wait ≡ Skip (BadCheck sent computed)
-        → (sent ≡ sentSum s) × (computed ≡ ownSum s) × (computed ≡ sent → ⊥)
-    go true true false e r =
-        let a : sent ≡ sentSum s = cc in
-        let b : computed ≡ ownSum s = cc in
-        (a, b, λ p. eqb-false (ownSum s) (sentSum s) e (sym b ∙ p ∙ a))
-    go true true true e r = let z : _≡_ {A = ℕ} 0 1 = cc in absurd (omega arith)
-    go true false agree e r = let z : _≡_ {A = ℕ} 0 1 = cc in absurd (omega arith)
-    go false d3 agree e r = let z : _≡_ {A = ℕ} 0 1 = cc in absurd (omega arith)

@@ -3,7 +3,7 @@
 // The search looks at bytes that are held and a piece behind them as one stream, which is nowhere copied together.
 ghost use mathlib.Core.Path.{_≡_};
 ghost use mathlib.Core.List.{_++_};
-ghost use Prim.Native.Nat.{ℕ, _+_, _*_, _^_, _≤_, _<_, max};
+ghost use Prim.Native.Nat.{_+_, _*_, _^_, _≤_, _<_, max};
 ghost use lib.ListN.{length, getD, take, drop};
 ghost use Rattle.bits.specs.Field.{field};
 ghost use Rattle.bits.specs.Crc.{crc};
