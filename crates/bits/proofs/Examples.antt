@@ -1,31 +1,27 @@
--- The worked examples of bit fields and of the checksum, computed from the definitions. Assumes nothing.
+-- Published vectors of the checksum and of fields, computed from the definitions. The marked examples are stated together in crate messages. Assumes nothing.
 use mathlib.Core.Path.{_≡_, refl}
-use mathlib.Core.Bool.{true}
-use mathlib.Core.List.{[], _∷_}
-use lib.IntN.{pos, negsuc}
-use Rattle.bits.specs.Told.{Accepted, range}
-use Rattle.bits.specs.Field.{field, reading, readBy, readUnsigned, readTwos, readSignmag, writeBy, writeTwos}
-use Rattle.bits.specs.Signed.{twosOf, signmagOf, fitsTwos}
+use mathlib.Core.List.{List, [], _∷_}
+use Prim.Native.Nat.{ℕ}
+use lib.IntN.{negsuc}
+use Rattle.bits.specs.Told.{Accepted}
+use Rattle.bits.specs.Field.{field, reading, readBy, readUnsigned, readTwos}
+use Rattle.bits.specs.Signed.{twosOf}
 use Rattle.bits.specs.Crc.{crcBit, crcBits, crcByte, crcFrom, crc}
 
--- the checksum of nothing, of D3 and of D3 00 00
-pub checksums : (crc [] ≡ 0) × (crc (0xD3 ∷ []) ≡ 0xE33309) × (crc (0xD3 ∷ 0 ∷ 0 ∷ []) ≡ 0x47EA4B)
+-- the catalogued checksum of the digits 1 to 9
+pub catalogued : crc (0x31 ∷ 0x32 ∷ 0x33 ∷ 0x34 ∷ 0x35 ∷ 0x36 ∷ 0x37 ∷ 0x38 ∷ 0x39 ∷ []) ≡ 0xCDE703
 unfolding crcBit crcBits crcByte crcFrom crc
-checksums = (refl, refl, refl)
+catalogued = refl
 
--- A5, start 2, width 3, by the three readings
-pub three-readings :
-    (readUnsigned (0xA5 ∷ []) 2 3 ≡ Accepted (reading 4 5))
-    × (readTwos (0xA5 ∷ []) 2 3 ≡ Accepted (reading (negsuc 3) 5))
-    × (readSignmag (0xA5 ∷ []) 2 3 ≡ Accepted (reading (pos 0) 5))
-unfolding field readBy twosOf signmagOf
-three-readings = (refl, refl, refl)
+-- the message 1005 that the standard works out
+abbrev message : List ℕ
+message =
+    0x3E ∷ 0xD7 ∷ 0xD3 ∷ 0x02 ∷ 0x02 ∷ 0x98 ∷ 0x0E ∷ 0xDE ∷ 0xEF ∷ 0x34 ∷ 0xB4 ∷ 0xBD ∷ 0x62 ∷ 0xAC ∷ 0x09 ∷ 0x41 ∷ 0x98 ∷ 0x6F ∷ 0x33 ∷ []
 
--- width 14: -8192 and 8191 fit, 8192 and 10000 are Range
-pub fourteen-bits :
-    (fitsTwos 14 (negsuc 8191) ≡ true)
-    × (fitsTwos 14 (pos 8191) ≡ true)
-    × (writeTwos (0 ∷ 0 ∷ []) 0 14 (pos 8192) .answer ≡ range 0)
-    × (writeTwos (0 ∷ 0 ∷ []) 0 14 (pos 10000) .answer ≡ range 0)
-unfolding writeBy
-fourteen-bits = (refl, refl, refl, refl)
+-- its number, its station 2003, and the station's place along Y, -4850729.7108 m
+pub station :
+    (readUnsigned message 0 12 ≡ Accepted (reading 1005 12))
+    × (readUnsigned message 12 12 ≡ Accepted (reading 2003 24))
+    × (readTwos message 74 38 ≡ Accepted (reading (negsuc 48507297107) 112))
+unfolding field readBy twosOf
+station = (refl, refl, refl)

@@ -1,42 +1,41 @@
--- The worked examples of frames and scanning, computed from the definitions. Assumes nothing.
+-- The frame of message 1005 that the standard works out, computed from the definitions. The marked examples are stated together in crate messages. Assumes nothing.
 use mathlib.Core.Path.{_≡_, refl}
-use mathlib.Core.List.{List, [], _∷_}
-use mathlib.Core.Option.{none}
+use mathlib.Core.List.{List, [], _∷_, _++_}
+use mathlib.Core.Option.{some}
 use Prim.Native.Nat.{ℕ}
-use Rattle.bits.specs.Told.{Accepted, notValid, incomplete}
+use Rattle.bits.specs.Told.{Accepted}
 use Rattle.bits.specs.Field.{field}
 use Rattle.bits.specs.Crc.{crcBit, crcBits, crcByte, crcFrom, crc}
-use Rattle.frames.specs.Scan.{Skipped, Framed, scan}
+use Rattle.frames.specs.Scan.{Item, Skipped, Framed, scan}
 use Rattle.frames.specs.Framing.{decide}
-use Rattle.frames.specs.Feed.{More, feed}
+use Rattle.frames.specs.Feed as fed
+use Rattle.frames.specs.Feed.{feed}
 use Rattle.frames.specs.Frame.{check, frameOf}
-use Rattle.frames.specs.Rtcm.{NotD3, BadCheck, Rtcm, rtcm}
+use Rattle.frames.specs.Rtcm.{Why, NotD3, BadCheck, Kind, Rtcm, rtcm}
+use Rattle.frames.specs.Walk.{Frame, nextFrom}
 
--- the frame that carries nothing
-abbrev pub empty : List ℕ
-empty = 0xD3 ∷ 0 ∷ 0 ∷ 0x47 ∷ 0xEA ∷ 0x4B ∷ []
+abbrev message : List ℕ
+message =
+    0x3E ∷ 0xD7 ∷ 0xD3 ∷ 0x02 ∷ 0x02 ∷ 0x98 ∷ 0x0E ∷ 0xDE ∷ 0xEF ∷ 0x34 ∷ 0xB4 ∷ 0xBD ∷ 0x62 ∷ 0xAC ∷ 0x09 ∷ 0x41 ∷ 0x98 ∷ 0x6F ∷ 0x33 ∷ []
 
--- a frame of 6, no number; the same with 00 00 behind it
-pub no-number :
-    (frameOf [] ≡ empty)
-    × (check empty ≡ Accepted (record { length = 6; carried = 0; number = none; sum = 0x47EA4B }))
-    × (check (0xD3 ∷ 0 ∷ 0 ∷ 0x47 ∷ 0xEA ∷ 0x4B ∷ 0 ∷ 0 ∷ []) ≡ Accepted (record { length = 6; carried = 0; number = none; sum = 0x47EA4B }))
-unfolding check frameOf field crcBit crcBits crcByte crcFrom crc
-no-number = (refl, refl, refl)
+abbrev frame : List ℕ
+frame = 0xD3 ∷ 0x00 ∷ 0x13 ∷ message ++ (0x36 ∷ 0x0B ∷ 0x98 ∷ [])
 
--- another last byte: not valid; no bytes: incomplete
-pub refused : (check (0xD3 ∷ 0 ∷ 0 ∷ 0x47 ∷ 0xEA ∷ 0x4A ∷ []) ≡ notValid) × (check [] ≡ incomplete)
-unfolding check field crcBit crcBits crcByte crcFrom crc
-refused = (refl, refl)
+-- the frame of the message, and what the check tells of it
+pub standard-frame :
+    (frameOf message ≡ frame)
+    × (check frame ≡ Accepted (record { length = 25; carried = 19; number = some 1005; sum = 0x360B98 }))
+unfolding frameOf check field crcBit crcBits crcByte crcFrom crc
+standard-frame = (refl, refl)
 
--- D3 00 00 before the frame: three bytes skipped, one frame
-pub three-skipped :
-    scan (decide rtcm) (0xD3 ∷ 0 ∷ 0 ∷ empty)
-    ≡ record { items = Skipped (BadCheck 0xD30000 0x47EA4B) 0xD3 ∷ Skipped NotD3 0 ∷ Skipped NotD3 0 ∷ Framed Rtcm empty ∷ []; held = [] }
-unfolding rtcm field crcBit crcBits crcByte crcFrom crc
-three-skipped = refl
+-- three bytes before the frame: a D3 whose checksum differs, and two that are not D3
+abbrev before : List (Item Why Kind)
+before = Skipped (BadCheck 0xD30013 0x47EA4B) 0xD3 ∷ Skipped NotD3 0 ∷ Skipped NotD3 0 ∷ []
 
--- D3 before the frame: More, 7 held
-pub seven-held : feed (decide rtcm) [] (0xD3 ∷ empty) ≡ More 7 [] (0xD3 ∷ empty)
-unfolding rtcm field crcBit crcBits crcByte crcFrom crc
-seven-held = refl
+-- behind them the scan, the next frame from place 0 on, and a call of a fresh scanner come to it
+pub standard-scan :
+    (scan (decide rtcm) (0xD3 ∷ 0 ∷ 0 ∷ frame) ≡ record { items = before ++ (Framed Rtcm frame ∷ []); held = [] })
+    × (nextFrom rtcm (0xD3 ∷ 0 ∷ 0 ∷ frame) 0 ≡ Accepted (Frame 3 25))
+    × (feed (decide rtcm) [] (0xD3 ∷ 0 ∷ 0 ∷ frame) ≡ fed.Frame 28 before Rtcm frame [])
+unfolding rtcm nextFrom field crcBit crcBits crcByte crcFrom crc
+standard-scan = (refl, refl, refl)

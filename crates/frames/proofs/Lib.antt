@@ -22,6 +22,4 @@ pub mod TurnLaws
 pub mod LookLaws
 pub mod SightLaws
 pub mod WalkLaws
-pub mod FedToldLaws
 pub mod ProgressLaws
-pub mod ScanExamples

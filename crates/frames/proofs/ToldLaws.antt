@@ -10,13 +10,23 @@ use Rattle.bits.specs.Told.{Told, Accepted, Refused, OneToOne}
 use Rattle.bits.specs.Field.{Wrote, wrote}
 use Rattle.bits.proofs.ToldLaws.{found-again}
 use Rattle.frames.specs.Frame.{Whole}
-use Rattle.frames.specs.Answers.{toldChecked, toldFramed}
+use Rattle.frames.specs.Call as call
+use Rattle.frames.specs.Call.{FedAnswer}
+use Rattle.frames.specs.Walk as walk
+use Rattle.frames.specs.Walk.{Place}
+use Rattle.frames.specs.Answers.{toldChecked, toldFramed, toldNext, toldFed}
 use Rattle.frames.specs.declared.frame.Number.{Number}
 use Rattle.frames.specs.declared.frame.Number.the-variants as N
 use Rattle.frames.specs.declared.frame.Checked.{Checked}
 use Rattle.frames.specs.declared.frame.Checked.the-variants as C
 use Rattle.frames.specs.declared.frame.Framed.{Framed}
 use Rattle.frames.specs.declared.frame.Framed.the-variants as F
+use Rattle.frames.specs.declared.scan.Next.{Next}
+use Rattle.frames.specs.declared.scan.Next.the-variants as X
+use Rattle.frames.specs.declared.scanner.Fed.{Fed}
+use Rattle.frames.specs.declared.scanner.Fed.the-variants as D
+
+-- ---- the frame check
 
 number : Option ℕ → Number
 number none = N.Absent
@@ -36,6 +46,8 @@ checked-again C.Incomplete = refl
 pub checked-one-to-one : OneToOne toldChecked
 checked-one-to-one = found-again toldChecked checked checked-again
 
+-- ---- framing
+
 framed : Told ℕ → Framed
 framed (Accepted n) = F.Length n
 framed (Refused n carried) = cond (eqb n 9) F.Size (F.Room (getD carried 0 0))
@@ -49,7 +61,45 @@ framed-again (F.Room n) = refl
 pub framed-one-to-one : OneToOne toldFramed
 framed-one-to-one = found-again toldFramed framed framed-again
 
--- and of framing, the outputs that two runs leave are equal too
+-- and the outputs that two runs leave are equal too
 pub only-framed : (d : Wrote) {x y : Framed} {s t : List ℕ} → wrote (toldFramed x) s ≡ d → wrote (toldFramed y) t ≡ d → (x ≡ y) × (s ≡ t)
 only-framed d p q =
     (framed-one-to-one .same (ap (λ r. r .answer) (p ∙ sym q)), ap (λ r. r .bytes) (p ∙ sym q))
+
+-- ---- the scan
+
+next : Told Place → Next
+next (Accepted (walk.Frame p l)) = X.Frame p l
+next (Accepted (walk.Held p)) = X.Held p
+next (Refused n carried) = X.Held n
+
+next-again : (x : Next) → next (toldNext x) ≡ x
+unfolding next
+next-again (X.Frame p l) = refl
+next-again (X.Held p) = refl
+
+pub next-one-to-one : OneToOne toldNext
+next-one-to-one = found-again toldNext next next-again
+
+-- ---- the scanner
+
+fed : Told FedAnswer → Fed
+fed (Accepted (call.More t s h)) = D.More t s h
+fed (Accepted (call.Frame l t s h)) = D.Frame l t s h
+fed (Refused n carried) = cond (eqb n 9) D.Size (cond (eqb n 11) D.State (D.Room (getD carried 0 0)))
+
+fed-again : (x : Fed) → fed (toldFed x) ≡ x
+unfolding fed
+fed-again (D.More t s h) = refl
+fed-again (D.Frame l t s h) = refl
+fed-again D.Size = refl
+fed-again D.State = refl
+fed-again (D.Room n) = refl
+
+pub fed-one-to-one : OneToOne toldFed
+fed-one-to-one = found-again toldFed fed fed-again
+
+-- and the held areas and outputs that two runs leave are equal too
+pub only-fed : (d : call.Outcome) {x y : Fed} {a b o q : List ℕ} → call.outcome (toldFed x) a o ≡ d → call.outcome (toldFed y) b q ≡ d → (x ≡ y) × (a ≡ b) × (o ≡ q)
+only-fed d e f =
+    (fed-one-to-one .same (ap (λ r. r .answer) (e ∙ sym f)), ap (λ r. r .held) (e ∙ sym f), ap (λ r. r .out) (e ∙ sym f))
