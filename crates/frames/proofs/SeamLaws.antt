@@ -1,10 +1,11 @@
 -- Two lists, one behind the other: bytes and parts of them as the code finds and copies them. Assumes nothing.
 use mathlib.Core.Path.{_≡_, refl, sym, ap, ap₂, _∙_}
-use mathlib.Core.List.{List, [], _∷_, _++_}
-use Prim.Native.Nat.{ℕ, zero, suc, _+_, _-_, _≤_, _<_}
+use mathlib.Core.List.{List, [], _∷_, _++_, append-nil}
+use Prim.Native.Nat.{ℕ, zero, suc, _+_, _-_, _≤_, _<_, min}
 use native.Mathlib.Nat.{add-sub-of-le, sub-zero, zero-sub, suc-sub-suc, add-comm, not-suc-le-zero, le-of-suc-le-suc}
 use native.Mathlib.Numerals.{add-one}
 use native.Mathlib.Omega.{arith}
+use native.Mathlib.Decide.{decLt}
 use lib.ListN.{length, getD, take, drop, set, length-append, length-drop, List·getD-append}
 use lib.Seq.{getD-append-add, getD-drop, drop-append-le, drop-append-add, take-append-le, take-append-add, take-all, take-nil, length-take-le}
 use Rattle.bits.specs.Onto.{onto, over}
@@ -34,51 +35,53 @@ drop-take (suc f) (suc t) (x ∷ l) = rw suc-sub-suc (drop-take f t l)
 
 module _ (h p : List ℕ) (i n : ℕ) where
   -- behind the seam
-  pub part-right : length h ≤ i → take (i + n - length h - (i - length h)) (drop (i - length h) p) ≡ take n (drop i (h ++ p))
+  pub part-right : length h ≤ i → take (i - length h + n - (i - length h)) (drop (i - length h) p) ≡ take n (drop i (h ++ p))
   part-right l =
-      let e : i + n - length h - (i - length h) ≡ n = omega arith in
+      let e : i - length h + n - (i - length h) ≡ n = omega arith in
       let f : drop (i - length h) p ≡ drop i (h ++ p) = sym (drop-append-add h p (i - length h)) ∙ ap (λ k. drop k (h ++ p)) (add-sub-of-le l) in
       ap₂ take e f
 
-  -- before it
-  pub part-left : i + n ≤ length h → take (i + n - i) (drop i h) ≡ take n (drop i (h ++ p))
-  part-left l =
-      let e : i + n - i ≡ n = omega arith in
-      rw (e, drop-append-le i h p (omega arith)) (sym (take-append-le n (drop i h) p (rw length-drop (omega arith))))
+  -- from before it on: m bytes of the first list, and then of the second
+  module _ (m : ℕ) (l : i < length h) (e : m ≡ min (length h - i) n) where
+    pub part-across : take (i + m - i) (drop i h) ++ take (n - m - 0) p ≡ take n (drop i (h ++ p))
+    part-across =
+        let x : i + m - i ≡ m = omega arith in
+        let y : n - m - 0 ≡ n - m = omega arith in
+        rw (x, y, drop-append-le i h p (omega arith)) (go (decLt n (length h - i)))
+      where
+        k : length (drop i h) ≡ length h - i
+        k = length-drop i h
 
-  -- across it
-  pub part-both : i < length h → length h ≤ i + n → take (length h - i) (drop i h) ++ take (i + n - length h - 0) p ≡ take n (drop i (h ++ p))
-  part-both l m =
-      let z : i + n - length h - 0 ≡ i + n - length h = omega arith in
-      let e : length (drop i h) + (i + n - length h) ≡ n = rw length-drop (omega arith) in
-      let g : take (length h - i) (drop i h) ≡ drop i h = take-all (length h - i) (drop i h) (rw length-drop (omega arith)) in
-      ap₂ (λ k t. k ++ take t p) g z ∙ sym (take-append-add (drop i h) p (i + n - length h)) ∙ ap₂ take e (sym (drop-append-le i h p (omega arith)))
+        go : Dec (n < length h - i) → take m (drop i h) ++ take (n - m) p ≡ take n (drop i h ++ p)
+        go (yes q) =
+            let u : m ≡ n = omega arith in
+            let v : n - m ≡ 0 = omega arith in
+            rw (v, u, append-nil) (sym (take-append-le n (drop i h) p (omega (arith, k))))
+        go (no q) =
+            let u : length (drop i h) + (n - m) ≡ n = omega (arith, k) in
+            ap (λ r. r ++ take (n - m) p) (take-all m (drop i h) (omega (arith, k))) ∙ sym (take-append-add (drop i h) p (n - m)) ∙ ap (λ r. take r (drop i h ++ p)) u
 
-  -- the checksum of a part across the seam, from that of its first half
-  pub sum-both : i < length h → length h ≤ i + n → (c : ℕ) → c ≡ crc (take (length h - i) (drop i h))
-      → crcFrom c (take (i + n - length h - 0) p) ≡ crc (take n (drop i (h ++ p)))
-  unfolding crc
-  sum-both l m c e =
-      ap (λ k. crcFrom k (take (i + n - length h - 0) p)) e
-      ∙ sym (from-append (take (length h - i) (drop i h)) (take (i + n - length h - 0) p) 0)
-      ∙ ap (crcFrom 0) (part-both l m)
+    -- the checksum, from that of the first m bytes
+    pub sum-across : (c : ℕ) → c ≡ crc (take (i + m - i) (drop i h)) → crcFrom c (take (n - m - 0) p) ≡ crc (take n (drop i (h ++ p)))
+    unfolding crc
+    sum-across c q =
+        ap (λ k. crcFrom k (take (n - m - 0) p)) q
+        ∙ sym (from-append (take (i + m - i) (drop i h)) (take (n - m - 0) p) 0)
+        ∙ ap (crcFrom 0) part-across
 
 -- ---- copies
 
 module _ (h p : List ℕ) (i n : ℕ) (d : List ℕ) where
-  pub gather-right : length h ≤ i → over 0 (take (i + n - length h - (i - length h)) (drop (i - length h) p)) d ≡ onto (take n (drop i (h ++ p))) d
+  pub gather-right : length h ≤ i → over 0 (take (i - length h + n - (i - length h)) (drop (i - length h) p)) d ≡ onto (take n (drop i (h ++ p))) d
   gather-right l = ap (λ x. over 0 x d) (part-right h p i n l) ∙ over-zero (take n (drop i (h ++ p))) d
 
-  pub gather-left : i + n ≤ length h → over 0 (take (i + n - i) (drop i h)) d ≡ onto (take n (drop i (h ++ p))) d
-  gather-left l = ap (λ x. over 0 x d) (part-left h p i n l) ∙ over-zero (take n (drop i (h ++ p))) d
-
-  pub gather-both : i < length h → length h ≤ i + n
-      → over (length h - i) (take (i + n - length h - 0) p) (over 0 (take (length h - i) (drop i h)) d) ≡ onto (take n (drop i (h ++ p))) d
-  gather-both l m =
-      let xs = take (length h - i) (drop i h) in
-      let ys = take (i + n - length h - 0) p in
-      let e : length xs ≡ length h - i = length-take-le (length h - i) (drop i h) (rw length-drop (omega arith)) in
-      ap (λ x. over (length h - i) ys x) (over-zero xs d) ∙ over-onto xs ys d (length h - i) e ∙ ap (λ x. onto x d) (part-both h p i n l m)
+  pub gather-across : (m : ℕ) → i < length h → m ≡ min (length h - i) n
+      → over m (take (n - m - 0) p) (over 0 (take (i + m - i) (drop i h)) d) ≡ onto (take n (drop i (h ++ p))) d
+  gather-across m l e =
+      let xs = take (i + m - i) (drop i h) in
+      let ys = take (n - m - 0) p in
+      let k : length xs ≡ m = length-take-le (i + m - i) (drop i h) (rw length-drop (omega arith)) ∙ omega arith in
+      ap (over m ys) (over-zero xs d) ∙ over-onto xs ys d m k ∙ ap (λ x. onto x d) (part-across h p i n m l e)
 
 module _ (a p : List ℕ) (count i : ℕ) (l : count ≤ length a) where
   pub slide-none : i ≡ 0 → over count p a ≡ onto (drop i (take count a ++ p)) a

@@ -1,11 +1,15 @@
 -- What private functions of the code compute. No promise to a caller rests on this file. Assumes nothing.
 use mathlib.Core.Path.{_≡_}
-use mathlib.Core.List.{List}
-use Prim.Native.Nat.{ℕ, _≤_, _<_}
-use lib.ListN.{length, getD}
+use mathlib.Core.List.{List, _++_}
+use Prim.Native.Nat.{ℕ, _+_, _-_, _≤_, _<_}
+use lib.ListN.{length, getD, take, drop}
+use Rattle.bits.specs.Told.{Accepted}
+use Rattle.bits.specs.Onto.{onto}
 use Rattle.frames.specs.Scan.{Decision, Skip, Take, Wait}
 use Rattle.frames.specs.Framing.{decide}
 use Rattle.frames.specs.Feed as fed
+use Rattle.frames.specs.Call as call
+use Rattle.frames.specs.Call.{Outcome, outcome}
 use Rattle.frames.specs.Rtcm.{Why, Kind, rtcm}
 use Rattle.frames.specs.declared.scan.Seen.{Seen}
 use Rattle.frames.specs.declared.scan.Seen.the-variants.{Incomplete, NotValid, Good}
@@ -33,3 +37,14 @@ seen s = seenBy (decide rtcm s) (rtcm .need s)
 abbrev pub sight : {W K : Type 0} → fed.Fed W K → Sight
 sight (fed.More t is h) = More (length is)
 sight (fed.Frame t is k f h) = Frame (length is) (length f) t
+
+-- The places found lie within the n bytes held and the m bytes of the piece, and what is left has room in an area of so many bytes.
+abbrev pub Movable : (area n m : ℕ) → Sight → Type 0
+Movable area n m (More i) = (i ≤ n + m) × (n + m ≤ i + area)
+Movable area n m (Frame i l t) = (t ≤ m) × (i + l ≤ n + t) × (n + t ≤ i + area)
+
+-- what a search of the first n bytes of the area a with the piece p behind them leads to: what is left is held, and a frame goes to the front of the output o
+abbrev pub moved : List ℕ → ℕ → List ℕ → List ℕ → Sight → Outcome
+moved a n p o (More i) = outcome (Accepted (call.More (length p) i (n + length p - i))) (onto (drop i (take n a ++ p)) a) o
+moved a n p o (Frame i l t) =
+    outcome (Accepted (call.Frame l t i (n + t - (i + l)))) (onto (drop (i + l) (take n a ++ take t p)) a) (onto (take l (drop i (take n a ++ take t p))) o)

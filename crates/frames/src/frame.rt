@@ -139,7 +139,7 @@ pub(crate) fn put_at(part: &[u8], out: &mut [u8], i: usize)
     }
 }
 
-fn wide(x: u8) -> u32
+pub(crate) fn wide(x: u8) -> u32
     ensures { λ r. ⌜ (r ≡ x) × (r < 256) ⌝ }
 {
     x as u32

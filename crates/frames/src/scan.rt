@@ -3,7 +3,7 @@
 // The search looks at bytes that are held and a piece behind them as one stream, which is nowhere copied together.
 ghost use mathlib.Core.Path.{_≡_};
 ghost use mathlib.Core.List.{_++_};
-ghost use Prim.Native.Nat.{_+_, _*_, _^_, _≤_, _<_, max};
+ghost use Prim.Native.Nat.{_+_, _*_, _^_, _≤_, _<_, min, max};
 ghost use lib.ListN.{length, getD, take, drop};
 ghost use Rattle.bits.specs.Field.{field};
 ghost use Rattle.bits.specs.Crc.{crc};
@@ -13,6 +13,7 @@ ghost use Rattle.frames.specs.Rtcm.{rtcm};
 ghost use Rattle.frames.specs.Walk.{nextFrom};
 ghost use Rattle.frames.specs.Answers.{toldNext};
 ghost use Rattle.frames.specs.Steps.{Start, seen, sight};
+use crate::frame;
 use bits::crc;
 
 // What the scan comes to next: a frame, with its place and its length; or the place from which on the bytes are held.
@@ -139,14 +140,12 @@ fn sum_of(held: &[u8], piece: &[u8], i: usize, n: usize) -> u32
     ensures { λ r. ⌜ r ≡ crc (take n (drop i (now (held .entry) ++ now (piece .entry)))) ⌝ }
 {
     let h = held.len();
-    let e = i + n;
     if h <= i {
-        return crc::crc24q(&piece[i - h..e - h]);
+        let j = i - h;
+        return crc::crc24q(&piece[j..j + n]);
     }
-    if e <= h {
-        return crc::crc24q(&held[i..e]);
-    }
-    crc::crc24q_from(crc::crc24q(&held[i..h]), &piece[0..e - h])
+    let m = least(h - i, n);
+    crc::crc24q_from(crc::crc24q(&held[i..i + m]), &piece[0..n - m])
 }
 
 // The three bytes from place i on, highest first.
@@ -167,15 +166,15 @@ fn byte_at(held: &[u8], piece: &[u8], i: usize) -> u32
 {
     let h = held.len();
     if i < h {
-        return wide(held[i]);
+        return frame::wide(held[i]);
     }
-    wide(piece[i - h])
+    frame::wide(piece[i - h])
 }
 
-fn wide(x: u8) -> u32
-    ensures { λ r. ⌜ (r ≡ x) × (r < 256) ⌝ }
+pub(crate) fn least(a: usize, b: usize) -> usize
+    ensures { λ r. ⌜ r ≡ min a b ⌝ }
 {
-    x as u32
+    if a < b { a } else { b }
 }
 
 fn most(a: usize, b: usize) -> usize

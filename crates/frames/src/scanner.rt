@@ -7,6 +7,7 @@ ghost use Rattle.bits.specs.Onto.{onto};
 ghost use Rattle.frames.specs.Rtcm.{rtcm};
 ghost use Rattle.frames.specs.Call.{outcome, feedOf};
 ghost use Rattle.frames.specs.Answers.{toldFed};
+ghost use Rattle.frames.specs.Steps.{moved, Movable};
 use crate::frame;
 use crate::scan;
 
@@ -54,7 +55,17 @@ pub fn feed(held: &mut [u8], count: usize, piece: &[u8], out: &mut [u8]) -> Fed
     if out.len() < 1029 {
         return Fed::Room(1029);
     }
-    match scan::look(&held[0..count], piece) {
+    let found = scan::look(&held[0..count], piece);
+    carry_out(held, count, piece, out, found)
+}
+
+// Does what a search found: what stands behind the bytes to skip is held; or the frame there is handed out, and what
+// stands behind it is held.
+fn carry_out(held: &mut [u8], count: usize, piece: &[u8], out: &mut [u8], found: scan::Sight) -> Fed
+    requires { ⌜ (count ≤ length (now held)) × (length (now held) ≤ length (now out)) × (count + length (now piece) < 2 ^ 64) × Movable (length (now held)) count (length (now piece)) found ⌝ }
+    ensures { λ r. ⌜ outcome (toldFed r) (now (held .exit)) (now (out .exit)) ≡ moved (now (held .entry)) count (now (piece .entry)) (now (out .entry)) found ⌝ }
+{
+    match found {
         scan::Sight::More(i) => {
             let n = slide(held, count, piece, i);
             Fed::More {
@@ -83,17 +94,14 @@ fn gather(out: &mut [u8], held: &[u8], piece: &[u8], i: usize, n: usize)
     ensures { λ _. ⌜ now (out .exit) ≡ onto (take n (drop i (now (held .entry) ++ now (piece .entry)))) (now (out .entry)) ⌝ }
 {
     let h = held.len();
-    let e = i + n;
     if h <= i {
-        frame::put_at(&piece[i - h..e - h], out, 0);
+        let j = i - h;
+        frame::put_at(&piece[j..j + n], out, 0);
         return;
     }
-    if e <= h {
-        frame::put_at(&held[i..e], out, 0);
-        return;
-    }
-    frame::put_at(&held[i..h], out, 0);
-    frame::put_at(&piece[0..e - h], out, h - i);
+    let m = scan::least(h - i, n);
+    frame::put_at(&held[i..i + m], out, 0);
+    frame::put_at(&piece[0..n - m], out, m);
 }
 
 // Holds what stands from place i on, of the held bytes with the piece behind them, and tells how many bytes that are.

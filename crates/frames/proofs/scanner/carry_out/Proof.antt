@@ -1,0 +1,109 @@
+-- The bytes are moved by the places found. Assumes nothing.
+use mathlib.Core.Path.{sym, ap, subst, _∙_}
+use Prim.Native.Nat.{ℕ}
+use native.Mathlib.Omega.{arith}
+use lib.ListN.{length}
+use Rattle.frames.specs.Steps.{Movable, moved}
+use Rattle.frames.specs.declared.scan.Sight.the-variants.{Frame}
+use Rattle.frames.proofs.SightLaws.{moved-more, moved-frame}
+use borrow.Author.Needs.{needs}
+use Rattle.frames.proofs.scanner.carry_out.Statement.{statement}
+use Rattle.frames.proofs.scanner.carry_out.Tie as tie
+
+-- the places of a frame that was found
+module _ (c : tie.After-found2) where
+  abbrev area : ℕ
+  area = length (c .before .before .before .before .before .args .held .now)
+
+  abbrev size : ℕ
+  size = length (c .before .before .before .before .before .args .piece .now)
+
+  there : Movable area (c .before .before .before .before .before .args .count) size (Frame (c .found2 .given .0 .0) (c .found2 .given .0 .1 .0) (c .found2 .given .0 .1 .1 .0))
+  there = subst (Movable area (c .before .before .before .before .before .args .count) size) (c .found2 .given .1) (c .before .before .before .before .before .pre .3)
+
+enum-known-found : tie.Need-enum-known-found
+enum-known-found c = search needs
+
+slide-requires : tie.Need-slide-requires
+slide-requires c κs =
+    let x = c .before .before .before .before .before .before .before in
+    let k = subst (Movable _ _ _) (c .before .before .found .given .1) (x .pre .3) in
+    (x .pre .0, k .0, k .1, x .pre .2)
+
+enum-known-found-2 : tie.Need-enum-known-found-2
+enum-known-found-2 c = search needs
+
+sub-looked : tie.Need-sub-looked
+sub-looked c = search needs
+
+part-looked-start : tie.Need-part-looked-start
+part-looked-start c = search needs
+
+part-looked-end : tie.Need-part-looked-end
+part-looked-end c = there (c .before) .0
+
+sub-gather : tie.Need-sub-gather
+sub-gather c = search needs
+
+part-gather-start : tie.Need-part-gather-start
+part-gather-start c = search needs
+
+part-gather-end : tie.Need-part-gather-end
+part-gather-end c = search needs
+
+gather-requires : tie.Need-gather-requires
+gather-requires c κs = let k = there (c .before .before .before .before .before) in (omega (arith, k), omega (arith, k), omega (arith, k))
+
+add-slide : tie.Need-add-slide
+add-slide c = let k = there (c .before .before .before .before .before .before .before .before .before) in record { fits = omega (arith, k) }
+
+slide-requires-2 : tie.Need-slide-requires-2
+slide-requires-2 c κs = let k = there (c .before .before .before .before .before .before .before .before .before) in (omega (arith, k), omega (arith, k), omega (arith, k), omega (arith, k))
+
+same-length : tie.Need-same-length
+same-length c = search needs
+
+returns : tie.Need-returns
+returns c =
+    let a = c .before .before .before .before .before .before .before .before .before .before .args in
+    let f = c .before .before .before .before .before .found .given in
+    let u = c .before .before .slide .ensures in
+    moved-more (a .held .now) (a .count) (a .piece .now) (a .out .now) (f .0 .0) _ _ (u .0) (u .1)
+    ∙ ap (moved (a .held .now) (a .count) (a .piece .now) (a .out .now)) (sym (f .1))
+
+same-length-2 : tie.Need-same-length-2
+same-length-2 c = search needs
+
+same-length-3 : tie.Need-same-length-3
+same-length-3 c = search needs
+
+returns-2 : tie.Need-returns-2
+returns-2 c =
+    let a = c .before .before .before .before .before .before .before .before .before .before .before .before .before .before .before .before .before .args in
+    let w = c .before .before .before .before .before .before .before .before .before .before .before .before in
+    let f = w .found2 .given in
+    let u = c .before .before .slide2 .ensures in
+    moved-frame (a .held .now) (a .count) (a .piece .now) (a .out .now) (f .0 .0) (f .0 .1 .0) (f .0 .1 .1 .0) _ _ _ (there w .0) (u .0) (u .1) (c .before .before .before .before .before .before .gather .ensures)
+    ∙ ap (moved (a .held .now) (a .count) (a .piece .now) (a .out .now)) (sym (f .1))
+
+pub carry-out-spec : {M : Type 1} → statement M
+carry-out-spec =
+    tie.close
+    (tie.spec
+    enum-known-found
+    slide-requires
+    enum-known-found-2
+    sub-looked
+    part-looked-start
+    part-looked-end
+    sub-gather
+    part-gather-start
+    part-gather-end
+    gather-requires
+    add-slide
+    slide-requires-2
+    same-length
+    returns
+    same-length-2
+    same-length-3
+    returns-2)
