@@ -26,7 +26,7 @@ length-put s p (suc w) v = length-set-bit (putField s p w (v / 2)) (p + w) (v % 
 
 -- ---- single bits
 
-pow-one : (k : ℕ) → 2 ^ (k + 1) ≡ 2 * 2 ^ k
+pub pow-one : (k : ℕ) → 2 ^ (k + 1) ≡ 2 * 2 ^ k
 pow-one k = ap (λ (n : ℕ). 2 ^ n) (add-one k) ∙ pow-suc 2 k ∙ mul-comm (2 ^ k) 2
 
 module _ (x j b : ℕ) (hb : b < 2) where

@@ -7,10 +7,9 @@ use native.Mathlib.Nat.{add-zero, zero-add, add-assoc}
 use native.Mathlib.Omega.{arith}
 use lib.ListN.{length}
 use Rattle.bits.specs.Field.{bitAt, putField}
-use Rattle.bits.proofs.BitLaws.{length-put}
-use Rattle.bits.proofs.BitLaws.{put-outside, field-ext, read-back-fits}
-use Rattle.bits.proofs.SameBits.{bytes-put, put-same}
 use Rattle.bits.specs.Fields.{Field, bits, total, putAll, Holds, Fit, Bytes}
+use Rattle.bits.proofs.BitLaws.{length-put, put-outside, field-ext, read-back-fits}
+use Rattle.bits.proofs.SameBits.{bytes-put, put-same}
 
 pub total-append : (xs ys : List Field) → total (xs ++ ys) ≡ total xs + total ys
 unfolding total

@@ -6,7 +6,7 @@ pub mod SameBits
 pub mod SignedCode
 pub mod SignedLaws
 pub mod FieldsLaws
-pub mod Ground
+pub mod GroundLaws
 pub mod ReadLaws
 pub mod WriteLaws
 pub mod XorLaws

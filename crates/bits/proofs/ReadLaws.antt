@@ -14,7 +14,7 @@ use Rattle.bits.specs.Steps.{groundOf}
 use Rattle.bits.specs.declared.field.Ground.{Ground}
 use Rattle.bits.specs.declared.field.Ground.the-variants.{Firm, Size, Width}
 use Rattle.bits.proofs.FieldLaws.{field-lt}
-use Rattle.bits.proofs.Ground.{onGround, by-ground, firm, is-firm}
+use Rattle.bits.proofs.GroundLaws.{onGround, by-ground, firm, is-firm}
 
 -- ---- by the ground, as the code decides
 

@@ -11,13 +11,13 @@ use lib.Seq.{ext-getD, getD-set-same, getD-set-other}
 use lib.Arith.{digits-div, digits-mod}
 use lib.Pow.{shr-shr}
 use Rattle.bits.specs.Field.{bitAt, field, putField, setBit, withBit}
-use Rattle.bits.proofs.FieldLaws.{field-whole, field-lt, bit-lt}
 use Rattle.bits.specs.Fields.{Bytes}
 use Rattle.bits.specs.Steps.{splice}
-use Rattle.bits.proofs.BitLaws.{length-put}
+use Rattle.bits.proofs.FieldLaws.{field-whole, field-lt, bit-lt}
+use Rattle.bits.proofs.BitLaws.{length-put, field-ext, put-outside, read-back-fits}
 use Rattle.bits.proofs.SpliceLaws.{splice-lt}
-use Rattle.bits.proofs.BitLaws.{field-ext, put-outside, read-back-fits}
 
+-- lists of bytes with equal bits are equal
 pub same-bits : (s t : List ℕ) → Bytes s → Bytes t → length s ≡ length t → ((i : ℕ) → i < length s * 8 → bitAt s i ≡ bitAt t i) → s ≡ t
 same-bits s t bs bt l e =
     ext-getD 0 s t l (λ i h.

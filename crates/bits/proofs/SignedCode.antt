@@ -3,7 +3,7 @@ use mathlib.Core.Path.{_≡_, refl, sym, ap, subst, _∙_}
 use mathlib.Core.Bool.{true, false, true≢false}
 use lib.Dec.{T}
 use Prim.Native.Nat.{ℕ, zero, suc, _+_, _-_, _*_, _/_, _%_, _^_, _≤_, _<_}
-use native.Mathlib.Nat.{zero-add, zero-mul, one-mul, mod-lt, mod-eq-of-lt, pow-suc, le-div-iff-mul-le, not-suc-le-zero}
+use native.Mathlib.Nat.{zero-add, zero-mul, one-mul, mod-lt, mod-eq-of-lt, le-div-iff-mul-le, not-suc-le-zero}
 use native.Mathlib.Omega.{arith}
 use borrow.Author.Tests.{lt-ltb, le-ltb, ltb-true}
 use lib.IntN.{ℤ, pos, negsuc, natAbs, negℤ, _-ℤ_}
@@ -12,6 +12,7 @@ use lib.Signed.{mag, ltZ, nonNeg}
 use mir.Syntax.{w64}
 use mir.Val.{Fits, SFits, toZ, ofZ}
 use mir.ValLaws.{toZ-pos, toZ-ofZ}
+use Rattle.bits.proofs.SignedLaws.{half-twice}
 
 -- ---- shifts
 
@@ -28,10 +29,9 @@ pub half-is : (w : ℕ) → 1 ≤ w → w ≤ 64
     → (1 * 2 ^ (w - 1) % 2 ^ 64 ≡ 2 ^ (w - 1)) × (1 * 2 ^ (w - 1) % 2 ^ 64 * 2 ≡ 2 ^ w)
     × (1 ≤ 1 * 2 ^ (w - 1) % 2 ^ 64) × (1 * 2 ^ (w - 1) % 2 ^ 64 ≤ 2 ^ 63)
 half-is w h l =
-    let s : suc (w - 1) ≡ w = omega arith in
     let m : 2 ^ (w - 1) ≤ 2 ^ 63 = pow-mono {j = 63} (omega arith) in
     let e : 1 * 2 ^ (w - 1) % 2 ^ 64 ≡ 2 ^ (w - 1) = rw one-mul (mod-eq-of-lt (omega arith)) in
-    (e, rw e (sym (pow-suc 2 (w - 1)) ∙ ap (λ (n : ℕ). 2 ^ n) s), rw e (pow-pos (w - 1)), rw e m)
+    (e, rw e (half-twice w h), rw e (pow-pos (w - 1)), rw e m)
 
 -- ---- differences
 

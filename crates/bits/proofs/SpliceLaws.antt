@@ -2,7 +2,7 @@
 use mathlib.Core.Path.{_≡_, sym, ap, ap₂, _∙_}
 use mathlib.Core.List.{List}
 use Prim.Native.Nat.{ℕ, zero, suc, _+_, _-_, _*_, _/_, _%_, _^_, _≤_, _<_}
-use native.Mathlib.Nat.{mod-lt, add-comm, add-zero, zero-add, add-suc, add-assoc, add-mul, mul-assoc, mul-comm, zero-mul, mod-one, div-one, pow-suc, mod-eq-of-lt, div-mul-le-self}
+use native.Mathlib.Nat.{mod-lt, add-comm, add-zero, zero-add, add-suc, add-assoc, add-mul, mul-assoc, zero-mul, mod-one, div-one, mod-eq-of-lt, div-mul-le-self}
 use native.Mathlib.Numerals.{add-one, one-add}
 use native.Mathlib.Omega.{arith}
 use lib.ListN.{length, getD, set}
@@ -12,6 +12,7 @@ use lib.Pow.{pow-pos, pow-add, split, high, low, mod-pow-add, mod-mod-pow, shr-s
 use Rattle.bits.specs.Field.{withBit, setBit, putField}
 use Rattle.bits.specs.Steps.{splice}
 use Rattle.bits.proofs.FieldLaws.{part-digits}
+use Rattle.bits.proofs.BitLaws.{pow-one}
 
 -- first k bits, then m
 pub put-split : (s : List ℕ) (p k m v : ℕ) → putField s p (k + m) v ≡ putField (putField s p k (v / 2 ^ m)) (p + k) m v
@@ -22,9 +23,6 @@ put-split s p k (suc m) v =
     ∙ ap₂ (λ (t : List ℕ) (n : ℕ). setBit t n (v % 2))
     (put-split s p k m (v / 2) ∙ ap (λ (n : ℕ). putField (putField s p k n) (p + k) m (v / 2)) (shr-shr v 1 m ∙ ap (λ (n : ℕ). v / 2 ^ n) (one-add m)))
     (sym (add-assoc p k m))
-
-pow-one : (k : ℕ) → 2 ^ (k + 1) ≡ 2 * 2 ^ k
-pow-one k = ap (λ (n : ℕ). 2 ^ n) (add-one k) ∙ pow-suc 2 k ∙ mul-comm (2 ^ k) 2
 
 -- one bit more, below those that are there
 splice-more : (x m j a b : ℕ) → withBit (splice x m (j + 1) a) j b ≡ splice x (suc m) j (a * 2 + b)

@@ -14,7 +14,7 @@ use Rattle.bits.specs.Field.{putField, reading, readBy, readUnsigned, re
 use Rattle.bits.specs.Steps.{groundOf, placed}
 use Rattle.bits.specs.declared.field.Ground.{Ground}
 use Rattle.bits.specs.declared.field.Ground.the-variants.{Firm, Size, Width}
-use Rattle.bits.proofs.Ground.{onGround, by-ground, firm, is-firm}
+use Rattle.bits.proofs.GroundLaws.{onGround, by-ground, firm, is-firm}
 use Rattle.bits.proofs.BitLaws.{length-put, read-back-fits}
 use Rattle.bits.proofs.SignedLaws.{twos-bits-lt, twos-back, signmag-bits-lt, signmag-back}
 use Rattle.bits.proofs.ReadLaws.{reads-value}

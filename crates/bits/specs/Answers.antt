@@ -10,18 +10,21 @@ use Rattle.bits.specs.declared.field.Signed.the-variants as S
 use Rattle.bits.specs.declared.field.Written.{Written}
 use Rattle.bits.specs.declared.field.Written.the-variants as W
 
+-- reading an unsigned field: its number and the bit behind it, or Size, Width, Short
 abbrev pub toldUnsigned : Unsigned → Told (Reading ℕ)
 toldUnsigned (U.Value v q) = Accepted (reading v q)
 toldUnsigned U.Size = size
 toldUnsigned U.Width = width
 toldUnsigned (U.Short p) = short p
 
+-- reading a signed field: the same
 abbrev pub toldSigned : Signed → Told (Reading ℤ)
 toldSigned (S.Value v q) = Accepted (reading v q)
 toldSigned S.Size = size
 toldSigned S.Width = width
 toldSigned (S.Short p) = short p
 
+-- writing a field: the bit behind it, or Size, Width, Range with 0, Room with the width
 abbrev pub toldWritten : Written → Told ℕ
 toldWritten (W.End q) = Accepted q
 toldWritten W.Size = size

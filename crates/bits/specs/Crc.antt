@@ -7,6 +7,7 @@ use lib.Bits.{bitXor}
 unfoldable pub crcBit : ℕ → ℕ
 crcBit c = bitXor (c / 2 ^ 23 % 2 * 0x864CFB) (c * 2 % 2 ^ 24)
 
+-- n bits, one after the other
 unfoldable pub crcBits : ℕ → ℕ → ℕ
 crcBits zero c = c
 crcBits (suc n) c = crcBit (crcBits n c)
@@ -20,6 +21,7 @@ unfoldable pub crcFrom : ℕ → List ℕ → ℕ
 crcFrom c [] = c
 crcFrom c (b ∷ s) = crcFrom (crcByte c b) s
 
+-- the checksum starts at 0
 unfoldable pub crc : List ℕ → ℕ
 crc s = crcFrom 0 s
 

@@ -36,12 +36,15 @@ readBy meaning s p w =
     (cond (ltb (length s * 8) (p + w)) (short p)
     (Accepted (reading (meaning (field s p w)) (p + w))))))
 
+-- the number itself
 abbrev pub readUnsigned : List ℕ → ℕ → ℕ → Told (Reading ℕ)
 readUnsigned s p w = readBy (λ v. v) s p w
 
+-- the number understood as two's complement
 abbrev pub readTwos : List ℕ → ℕ → ℕ → Told (Reading ℤ)
 readTwos s p w = readBy (twosOf w) s p w
 
+-- the number understood as sign-magnitude
 abbrev pub readSignmag : List ℕ → ℕ → ℕ → Told (Reading ℤ)
 readSignmag s p w = readBy (signmagOf w) s p w
 
@@ -78,11 +81,14 @@ writeBy fits v s p w =
     (cond (ltb (length s * 8) (p + w)) (wrote (room w) s)
     (wrote (Accepted (p + w)) (putField s p w v))))))
 
+-- a number from 0 on
 abbrev pub writeUnsigned : List ℕ → ℕ → ℕ → ℕ → Wrote
 writeUnsigned s p w v = writeBy (fitsUnsigned w v) v s p w
 
+-- a number in two's complement
 abbrev pub writeTwos : List ℕ → ℕ → ℕ → ℤ → Wrote
 writeTwos s p w z = writeBy (fitsTwos w z) (twosBits w z) s p w
 
+-- a number as sign-magnitude
 abbrev pub writeSignmag : List ℕ → ℕ → ℕ → ℤ → Wrote
 writeSignmag s p w z = writeBy (fitsSignmag w z) (signmagBits w z) s p w

@@ -22,6 +22,7 @@ pub fn crc24q_from(sum: u32, bytes: &[u8]) -> u32
     c
 }
 
+// The checksum after one byte more: the byte goes into the top eight bits, and eight steps follow.
 fn crc_byte(c: u32, b: u8) -> u32
     ensures { λ r. ⌜ r ≡ crcByte c b ⌝ }
 {
@@ -34,6 +35,7 @@ fn crc_byte(c: u32, b: u8) -> u32
     x
 }
 
+// One step: a shift to the left within 24 bits, and where a 1 falls out, the polynomial.
 fn crc_bit(c: u32) -> u32
     ensures { λ r. ⌜ r ≡ crcBit c ⌝ }
 {

@@ -128,13 +128,14 @@ pub fn write_signmag(bytes: &mut [u8], start: usize, width: usize, value: i64) -
     }
 }
 
-// What is refused before the number and the place are looked at.
+// What is decided before the number and the place are looked at.
 enum Ground {
     Firm,
     Size,
     Width,
 }
 
+// Size for more than 1,023 bytes of data, Width for a width of 0 or above 64.
 fn ground_of(n: usize, width: usize) -> Ground
     ensures { λ r. ⌜ r ≡ groundOf n width ⌝ }
 {

@@ -41,6 +41,7 @@ pub(crate) fn fits_unsigned(v: u64, width: usize) -> bool
     if v >> width == 0 { true } else { false }
 }
 
+// Whether z is within the range of two's complement.
 pub(crate) fn fits_twos(z: i64, width: usize) -> bool
     requires { ⌜ (1 ≤ width) × (width ≤ 64) ⌝ }
     ensures { λ r. ⌜ r ≡ fitsTwos width z ⌝ }
@@ -48,6 +49,7 @@ pub(crate) fn fits_twos(z: i64, width: usize) -> bool
     mag_of(z) < half_of(width)
 }
 
+// Whether z is within the range of sign and magnitude, which has one number less below zero.
 pub(crate) fn fits_signmag(z: i64, width: usize) -> bool
     requires { ⌜ (1 ≤ width) × (width ≤ 64) ⌝ }
     ensures { λ r. ⌜ r ≡ fitsSignmag width z ⌝ }

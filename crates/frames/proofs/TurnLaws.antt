@@ -88,17 +88,17 @@ onward-twice i t j u (More n) = simp add-assoc
 onward-twice i t j u (Frame n l v) = simp add-assoc
 
 module _ {W K : Type 0} where
-  look-past : (r : Fed W K) → sight (past [] r) ≡ onward 0 1 (sight r)
-  look-past (fed.More t is h) = simp zero-add
-  look-past (fed.Frame t is k f h) = simp (zero-add, one-add)
+  sight-past : (r : Fed W K) → sight (past [] r) ≡ onward 0 1 (sight r)
+  sight-past (fed.More t is h) = simp zero-add
+  sight-past (fed.Frame t is k f h) = simp (zero-add, one-add)
 
-  look-pasts : (m : ℕ) (r : Fed W K) → sight (pasts m r) ≡ onward 0 m (sight r)
-  look-pasts zero r = sym (onward-none (sight r))
-  look-pasts (suc m) r = look-past (pasts m r) ∙ ap (onward 0 1) (look-pasts m r) ∙ onward-twice 0 1 0 m (sight r) ∙ ap (λ k. onward 0 k (sight r)) (one-add m)
+  sight-pasts : (m : ℕ) (r : Fed W K) → sight (pasts m r) ≡ onward 0 m (sight r)
+  sight-pasts zero r = sym (onward-none (sight r))
+  sight-pasts (suc m) r = sight-past (pasts m r) ∙ ap (onward 0 1) (sight-pasts m r) ∙ onward-twice 0 1 0 m (sight r) ∙ ap (λ k. onward 0 k (sight r)) (one-add m)
 
-  look-skipped : (x : Item W K) (r : Fed W K) → sight (skipped x r) ≡ onward 1 0 (sight r)
-  look-skipped x (fed.More t is h) = simp one-add
-  look-skipped x (fed.Frame t is k f h) = simp (zero-add, one-add)
+  sight-skipped : (x : Item W K) (r : Fed W K) → sight (skipped x r) ≡ onward 1 0 (sight r)
+  sight-skipped x (fed.More t is h) = simp one-add
+  sight-skipped x (fed.Frame t is k f h) = simp (zero-add, one-add)
 
 module _ {W K : Type 0} (F : Framing W K) (h p : List ℕ) where
   -- what is held, with i bytes skipped and t taken
@@ -168,7 +168,7 @@ module _ {W K : Type 0} (F : Framing W K) (h p : List ℕ) where
           let k : length (drop t p) ≡ length p - t = length-drop t p in
           let f = feed-more (decide F) (u - t) (drop t p) (heldAt i t) (omega (arith, r .1)) (λ j y. waits-below j (omega (arith, r .1)) (omega arith)) in
           let g : sight (feed (decide F) h p) ≡ onward i u (sight (feed (decide F) (heldAt i u) (drop u p))) =
-          r .2 ∙ ap (λ s. onward i t (sight s)) f ∙ ap (onward i t) (look-pasts (u - t) (feed (decide F) (heldAt i t ++ take (u - t) (drop t p)) (drop (u - t) (drop t p))))
+          r .2 ∙ ap (λ s. onward i t (sight s)) f ∙ ap (onward i t) (sight-pasts (u - t) (feed (decide F) (heldAt i t ++ take (u - t) (drop t p)) (drop (u - t) (drop t p))))
           ∙ rw (held-more i t (u - t) (r .0) (r .1), drop-drop (u - t) t p, w) (onward-twice i t 0 (u - t) (sight (feed (decide F) (heldAt i u) (drop u p))) ∙ rw (add-zero i, w)) in
           let z : length (heldAt i u) ≡ length h + u - i = length-held i u (omega (arith, r .1)) in
           let q : heldAt i u ++ drop u p ≡ drop i (h ++ p) = held-all i u (omega (arith, r .0)) (omega (arith, r .1)) in
@@ -191,7 +191,7 @@ module _ {W K : Type 0} (F : Framing W K) (h p : List ℕ) where
             omega (arith, a .0, b .2),
             b .0 .1,
             b .0 .2 ∙ ap (λ s. onward i u (sight (feed (decide F) s (drop u p)))) c ∙ ap (λ s. onward i u (sight s)) f
-                ∙ ap (onward i u) (look-skipped (Skipped w (getD (h ++ take u p) i 0)) (feed (decide F) (heldAt (suc i) u) (drop u p)))
+                ∙ ap (onward i u) (sight-skipped (Skipped w (getD (h ++ take u p) i 0)) (feed (decide F) (heldAt (suc i) u) (drop u p)))
                 ∙ onward-twice i u 1 0 (sight (feed (decide F) (heldAt (suc i) u) (drop u p))) ∙ rw (add-zero u, add-one i),
           )
 

@@ -25,7 +25,7 @@ use Rattle.frames.proofs.SightLaws.{Inside, inside}
 
 -- ---- a search finds the next frame
 
--- the same of a search, in bytes whose first stands at the place n
+-- what a search found, in bytes whose first stands at place n
 abbrev pub placeSeen : ℕ → Sight → Place
 placeSeen n (sights.More i) = walk.Held (n + i)
 placeSeen n (sights.Frame i l t) = walk.Frame (n + i) l

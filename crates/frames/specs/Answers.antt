@@ -18,24 +18,29 @@ use Rattle.frames.specs.declared.scan.Next.the-variants as X
 use Rattle.frames.specs.declared.scanner.Fed.{Fed}
 use Rattle.frames.specs.declared.scanner.Fed.the-variants as D
 
+-- the message number, or that there is none
 abbrev pub toldNumber : Number → Option ℕ
 toldNumber N.Absent = none
 toldNumber (N.Is n) = some n
 
+-- the frame check: a good frame, or NotValid, Incomplete
 abbrev pub toldChecked : Checked → Told Whole
 toldChecked (C.Frame n l m c) = Accepted (record { length = n; carried = l; number = toldNumber m; sum = c })
 toldChecked C.NotValid = notValid
 toldChecked C.Incomplete = incomplete
 
+-- framing: the frame's length, or Size, Room with that length
 abbrev pub toldFramed : Framed → Told ℕ
 toldFramed (F.Length n) = Accepted n
 toldFramed F.Size = size
 toldFramed (F.Room n) = room n
 
+-- the scan from a place on: a frame's place and length, or the place from which on the bytes are held
 abbrev pub toldNext : Next → Told Place
 toldNext (X.Frame p l) = Accepted (walk.Frame p l)
 toldNext (X.Held p) = Accepted (walk.Held p)
 
+-- a call of the scanner: More or a frame, or Size, State, Room with 1,029
 abbrev pub toldFed : Fed → Told FedAnswer
 toldFed (D.More t s h) = Accepted (call.More t s h)
 toldFed (D.Frame l t s h) = Accepted (call.Frame l t s h)

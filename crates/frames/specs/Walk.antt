@@ -28,11 +28,12 @@ abbrev pub cut : List ℕ → Place → List ℕ
 cut s (Frame p n) = take n (drop p s)
 cut s (Held p) = drop p s
 
--- the frames among items that stand at places
+-- an item that stands at place n, if it is a frame
 abbrev pub frameAt : {W K : Type 0} → ℕ → Item W K → List Place
 frameAt n (Skipped w x) = []
 frameAt n (Framed k f) = Frame n (length f) ∷ []
 
+-- the frames among items that stand at places
 abbrev pub framesAt : {W K : Type 0} → List (Placed W K) → List Place
 framesAt [] = []
 framesAt (i ∷ is) = frameAt (i .place) (i .item) ++ framesAt is

@@ -139,6 +139,7 @@ pub(crate) fn put_at(part: &[u8], out: &mut [u8], i: usize)
     }
 }
 
+// A byte as a number that can be shifted up.
 pub(crate) fn wide(x: u8) -> u32
     ensures { λ r. ⌜ (r ≡ x) × (r < 256) ⌝ }
 {

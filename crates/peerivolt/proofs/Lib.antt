@@ -1,3 +1,2 @@
 pub mod AnswerLaws
-pub mod SignedLaws
 pub mod Examples

@@ -5,7 +5,7 @@ use native.Mathlib.Omega.{arith}
 use borrow.Author.Needs.{needs}
 use Rattle.bits.specs.Told.{Accepted}
 use Rattle.bits.specs.Field.{reading}
-use Rattle.bits.proofs.Ground.{firm}
+use Rattle.bits.proofs.GroundLaws.{firm}
 use Rattle.bits.proofs.ReadLaws.{read-size, read-width, read-short, read-value}
 use Rattle.bits.proofs.field.read_unsigned.Statement.{statement}
 use Rattle.bits.proofs.field.read_unsigned.Tie as tie

@@ -7,7 +7,7 @@ use borrow.Author.Needs.{needs}
 use borrow.Author.Tests.{not-true, not-false}
 use Rattle.bits.specs.Signed.{fitsSignmag, signmagBits}
 use Rattle.bits.specs.Steps.{placed}
-use Rattle.bits.proofs.Ground.{firm}
+use Rattle.bits.proofs.GroundLaws.{firm}
 use Rattle.bits.proofs.WriteLaws.{write-size, write-width, write-range, write-placed}
 use Rattle.bits.proofs.field.write_signmag.Statement.{statement}
 use Rattle.bits.proofs.field.write_signmag.Tie as tie

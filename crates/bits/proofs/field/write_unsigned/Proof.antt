@@ -3,7 +3,7 @@ use mathlib.Core.Path.{sym, _∙_}
 use native.Mathlib.Omega.{arith}
 use borrow.Author.Needs.{needs}
 use borrow.Author.Tests.{not-true, not-false}
-use Rattle.bits.proofs.Ground.{firm}
+use Rattle.bits.proofs.GroundLaws.{firm}
 use Rattle.bits.proofs.WriteLaws.{write-size, write-width, write-range, write-placed}
 use Rattle.bits.proofs.field.write_unsigned.Statement.{statement}
 use Rattle.bits.proofs.field.write_unsigned.Tie as tie
