@@ -86,15 +86,18 @@ field-within s q n o w h =
     ∙ ap (λ (k : ℕ). k % 2 ^ w) (field-split s q o w)
     ∙ pow-low (field s q o) w (field-lt s (q + o) w))
 
+-- the field of eight bits at byte i
+pub byte-field : (s : List ℕ) (q i : ℕ) → q ≡ i * 8 → field s q 8 ≡ getD s i 0 % 2 ^ 8
+byte-field s q i e =
+    let a : q / 8 ≡ i = omega arith in
+    let b : 8 - q % 8 - 8 ≡ 0 = omega arith in
+    field-byte s q 8 (omega arith)
+    ∙ ap₂ (λ (x y : ℕ). getD s x 0 / 2 ^ y % 2 ^ 8) a b
+    ∙ ap (λ (x : ℕ). x % 2 ^ 8) (div-one (getD s i 0))
+
 -- a byte is a field
 pub field-whole : (s : List ℕ) (i : ℕ) → getD s i 0 < 256 → field s (i * 8) 8 ≡ getD s i 0
-field-whole s i h =
-    let e1 : i * 8 / 8 ≡ i = omega arith in
-    let e2 : 8 - i * 8 % 8 - 8 ≡ 0 = omega arith in
-    field-byte s (i * 8) 8 (omega arith)
-    ∙ ap₂ (λ (x y : ℕ). getD s x 0 / 2 ^ y % 2 ^ 8) e1 e2
-    ∙ ap (λ (x : ℕ). x % 2 ^ 8) (div-one (getD s i 0))
-    ∙ mod-eq-of-lt h
+field-whole s i h = byte-field s (i * 8) i refl ∙ mod-eq-of-lt h
 
 -- ---- bytes put together from the highest on
 

@@ -3,7 +3,6 @@ use mathlib.Core.Path.{_≡_, refl, sym, ap, ap₂, _∙_}
 use mathlib.Core.List.{List}
 use mathlib.Core.Option.{Option, none, some}
 use Prim.Native.Nat.{ℕ, _+_, _-_, _*_, _/_, _%_, _^_, _≤_, _<_}
-use native.Mathlib.Nat.{div-one}
 use native.Mathlib.Omega.{arith}
 use native.Mathlib.Decide.{decLt, ℕ-discrete}
 use lib.ListN.{length, getD, take}
@@ -12,19 +11,10 @@ use borrow.Author.Tests.{lt-ltb, le-ltb, eq-eqb, ne-eqb}
 use Rattle.bits.specs.Told.{Accepted, notValid, incomplete}
 use Rattle.bits.specs.Field.{field}
 use Rattle.bits.specs.Crc.{crc}
-use Rattle.bits.proofs.FieldLaws.{field-lt, field-split, field-byte}
+use Rattle.bits.proofs.FieldLaws.{field-lt, field-split, byte-field}
 use Rattle.frames.specs.Frame.{dataLength, sentSum, ownSum, numberOf, Whole, wholeOf, check}
 
 -- ---- fields by bytes
-
--- a byte is a field of eight bits
-pub byte-field : (s : List ℕ) (q i : ℕ) → q ≡ i * 8 → field s q 8 ≡ getD s i 0 % 2 ^ 8
-byte-field s q i e =
-    let a : q / 8 ≡ i = omega arith in
-    let b : 8 - q % 8 - 8 ≡ 0 = omega arith in
-    field-byte s q 8 (omega arith)
-    ∙ ap₂ (λ (x y : ℕ). getD s x 0 / 2 ^ y % 2 ^ 8) a b
-    ∙ ap (λ (x : ℕ). x % 2 ^ 8) (div-one (getD s i 0))
 
 -- three bytes, highest first, are a field of 24 bits
 pub three-field : (s : List ℕ) (i : ℕ)

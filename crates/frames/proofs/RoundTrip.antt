@@ -10,11 +10,11 @@ use Rattle.bits.specs.Told.{Told, Accepted}
 use Rattle.bits.specs.Field.{field, Wrote}
 use Rattle.bits.specs.Fields.{Bytes}
 use Rattle.bits.specs.Crc.{crc}
-use Rattle.bits.proofs.FieldLaws.{field-split}
+use Rattle.bits.proofs.FieldLaws.{field-split, byte-field}
 use Rattle.bits.proofs.PartLaws.{field-drop}
 use Rattle.bits.proofs.CrcLaws.{crc-below}
 use Rattle.frames.specs.Frame.{dataLength, sentSum, ownSum, Whole, wholeOf, check, partOf, framePart, dataPart, threeBytes, header, summed, frameOf, writeFrame}
-use Rattle.frames.proofs.FrameLaws.{three-field, byte-field, length-low, length-small, Good, good-tells, good-passes}
+use Rattle.frames.proofs.FrameLaws.{three-field, length-low, length-small, Good, good-tells, good-passes}
 use Rattle.frames.proofs.AppendLaws.{check-append}
 use Rattle.frames.proofs.WriteLaws.{is-framed, header-bytes}
 

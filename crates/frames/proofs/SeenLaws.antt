@@ -67,10 +67,6 @@ start-both h p i j k l s t =
 -- ---- what is seen
 
 module _ (t : List ℕ) (first : getD t 0 0 ≡ 0xD3) where
-  few : length t < 6 → Incomplete ≡ seen t
-  unfolding seen rtcm
-  few l = rw (eq-eqb (getD t 0 0) 0xD3 first, lt-leb (dataLength t + 6) (length t) (omega arith))
-
   cut : length t < dataLength t + 6 → Incomplete ≡ seen t
   unfolding seen rtcm
   cut l = rw (eq-eqb (getD t 0 0) 0xD3 first, lt-leb (dataLength t + 6) (length t) l)
@@ -102,7 +98,7 @@ module _ (s : List ℕ) (i : ℕ) (e : getD s i 0 ≡ 0xD3) where
   start = first-is s i ∙ e
 
   pub seen-few : length s < i + 6 → Incomplete ≡ seen (drop i s)
-  seen-few l = few (drop i s) start (rw length-drop (omega arith))
+  seen-few l = cut (drop i s) start (rw length-drop (omega arith))
 
   module _ (n : ℕ) (f : n ≡ dataLength (drop i s)) where
     pub seen-cut : length s < i + (n + 6) → Incomplete ≡ seen (drop i s)
