@@ -4,8 +4,8 @@ use crate::counts;
 use crate::counts::Counts;
 use crate::rows;
 use messages::answer::BlockRead;
-use messages::block1059;
-use messages::block1230;
+use messages::read1059;
+use messages::read1230;
 
 // The header of the 1059 messages of rtcm3-1.bin is that of an old draft, and has 42 bits.
 const START_1059: usize = 42;
@@ -22,7 +22,7 @@ pub fn show_1059(
     let mut satellites = [0u8; 422];
     let mut signals = [0u8; 422];
     let mut biases = [0i16; 422];
-    match block1059::read(data, START_1059, &mut satellites, &mut signals, &mut biases) {
+    match read1059::read(data, START_1059, &mut satellites, &mut signals, &mut biases) {
         BlockRead::Records { count, end } => {
             rows::with_satellites(place, count, &satellites, &signals, &biases, out, at);
             let same = back::is_same_1059(
@@ -52,7 +52,7 @@ pub fn show_1230(
 ) -> Counts {
     let mut signals = [0u8; 4];
     let mut biases = [0i16; 4];
-    match block1230::read(data, START_1230, &mut signals, &mut biases) {
+    match read1230::read(data, START_1230, &mut signals, &mut biases) {
         BlockRead::Records { count, end } => {
             rows::without(place, count, &signals, &biases, out, at);
             let same = back::is_same_1230(data, START_1230, end, count, &signals, &biases);

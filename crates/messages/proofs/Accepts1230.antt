@@ -12,7 +12,7 @@ use Rattle.bits.specs.Field.{wrote}
 use Rattle.bits.specs.Fields.{total, putAll}
 use Rattle.messages.specs.Every.{Every}
 use Rattle.messages.specs.Records.{Rec1230, rec1230, signalOf1230, records1230}
-use Rattle.messages.specs.Block1230.{maskSignals}
+use Rattle.messages.specs.Read1230.{maskSignals}
 use Rattle.messages.specs.Writer.{fine, firstFault}
 use Rattle.messages.specs.Write1230.{isIn, fault1230, firstRepeat, fields1230, writeRecords1230, write1230}
 use Rattle.messages.proofs.AcceptLaws.{cond-accepted, unless-accepted}

@@ -15,7 +15,7 @@ use Rattle.bits.proofs.SignedLaws.{twos-back, twos-again, twos-fits}
 use Rattle.messages.specs.Every.{Every}
 use Rattle.messages.specs.Reader.{many}
 use Rattle.messages.specs.Records.{Rec1059, rec1059, satelliteOf, biasOf1059}
-use Rattle.messages.specs.Block1059.{biasAt}
+use Rattle.messages.specs.Read1059.{biasAt}
 use Rattle.messages.specs.Write1059.{biasFields}
 use Rattle.messages.proofs.AcceptLaws.{field-accepted, field-then}
 use Rattle.messages.proofs.ManyLaws.{many-none, many-more, many-tells}

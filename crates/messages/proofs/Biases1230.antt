@@ -15,7 +15,7 @@ use Rattle.bits.proofs.SignedLaws.{twos-back, twos-again}
 use Rattle.messages.specs.Every.{Every}
 use Rattle.messages.specs.Reader.{before}
 use Rattle.messages.specs.Records.{Rec1230, rec1230, signalOf1230, biasOf1230}
-use Rattle.messages.specs.Block1230.{biasesAt}
+use Rattle.messages.specs.Read1230.{biasesAt}
 use Rattle.messages.specs.Write1230.{biasFields16}
 use Rattle.messages.proofs.AcceptLaws.{then-accepted, field-accepted, field-then}
 

@@ -9,8 +9,8 @@ use Rattle.bits.specs.Field.{Reading, reading, field, readUnsigned}
 use Rattle.bits.proofs.ReadLaws.{read-tells}
 use Rattle.messages.specs.Reader.{many}
 use Rattle.messages.specs.Records.{Rec1059, Rec1230}
-use Rattle.messages.specs.Block1059.{satelliteAt, block1059}
-use Rattle.messages.specs.Block1230.{maskSignals, masked, biasesAt, block1230}
+use Rattle.messages.specs.Read1059.{satelliteAt, block1059}
+use Rattle.messages.specs.Read1230.{maskSignals, masked, biasesAt, block1230}
 use Rattle.messages.proofs.PassLaws.{both-read}
 use Rattle.messages.proofs.Laws1059.{satellite-tells}
 use Rattle.messages.proofs.Laws1230.{biases-tell, masked-length}

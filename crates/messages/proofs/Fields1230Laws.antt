@@ -14,7 +14,7 @@ use Rattle.bits.specs.Signed.{twosBits}
 use Rattle.bits.specs.Fields.{bits, total}
 use Rattle.bits.proofs.FieldsLaws.{total-append}
 use Rattle.messages.specs.Records.{Rec1230, rec1230, records1230}
-use Rattle.messages.specs.Block1230.{maskSignals}
+use Rattle.messages.specs.Read1230.{maskSignals}
 use Rattle.messages.specs.Writer.{fine, keep, firstFault}
 use Rattle.messages.specs.Write1230.{isIn, ofSignal, maskOf, biasFields16, inMaskOrder, fields1230}
 use Rattle.messages.specs.Steps1230.{unknownAt}

@@ -16,7 +16,7 @@ use Rattle.bits.proofs.ReadLaws.{reads-value, reads-short}
 use Rattle.messages.specs.Reader.{many}
 use Rattle.messages.specs.Records.{Rec1059, rec1059, counted}
 use Rattle.messages.specs.ReadSteps.{counts, Stored, lists1059, put1059}
-use Rattle.messages.specs.Block1059.{biasAt, satelliteAt}
+use Rattle.messages.specs.Read1059.{biasAt, satelliteAt}
 use Rattle.messages.proofs.PassLaws.{counts-short, counted-tells, stored-one}
 use Rattle.messages.proofs.ArmLaws.{value-within}
 use Rattle.messages.proofs.RunLaws.{Single, Run, many-run, run-fits, run-cut, run-tells}

@@ -16,7 +16,7 @@ use Rattle.bits.proofs.ReadLaws.{reads-value, reads-short}
 use Rattle.messages.specs.Reader.{before}
 use Rattle.messages.specs.Records.{Rec1230, rec1230, counted}
 use Rattle.messages.specs.Writer.{keep}
-use Rattle.messages.specs.Block1230.{maskSignals, masked, biasesAt}
+use Rattle.messages.specs.Read1230.{maskSignals, masked, biasesAt}
 use Rattle.messages.specs.ReadSteps.{counts, Placed, Stored, Lists1230, lists1230, put1230}
 use Rattle.messages.proofs.PassLaws.{chain, counts-short, stored-one}
 use Rattle.messages.proofs.PutLaws.{put1230-on}

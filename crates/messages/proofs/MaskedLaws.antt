@@ -13,7 +13,7 @@ use lib.Pow.{mod-pow-add}
 use Rattle.bits.specs.Fields.{Field}
 use Rattle.messages.specs.Every.{Every}
 use Rattle.messages.specs.Records.{Rec1230, rec1230, signalOf1230, biasOf1230}
-use Rattle.messages.specs.Block1230.{masked}
+use Rattle.messages.specs.Read1230.{masked}
 use Rattle.messages.specs.Writer.{keep}
 use Rattle.messages.specs.Write1230.{ofSignal, maskOf, biasFields16, inMaskOrder}
 

@@ -9,7 +9,7 @@ use Rattle.bits.specs.Told.{Told, Accepted, size, short}
 use Rattle.bits.specs.Field.{Reading, reading, readUnsigned}
 use Rattle.messages.specs.Reader.{many}
 use Rattle.messages.specs.Records.{Rec1059, Counted, counted}
-use Rattle.messages.specs.Block1059.{satelliteAt, block1059, Read1059, outcome1059, left1059, read1059}
+use Rattle.messages.specs.Read1059.{satelliteAt, block1059, Read1059, outcome1059, left1059, read1059}
 use Rattle.messages.specs.ReadSteps.{Lists1059, lists1059, put1059}
 use Rattle.messages.proofs.CallLaws.{Call}
 use Rattle.messages.proofs.PutLaws.{put1059-front}

@@ -8,7 +8,7 @@ use lib.ListN.{length}
 use Rattle.bits.specs.Told.{Told, Accepted, size, short}
 use Rattle.bits.specs.Field.{Reading, reading, readUnsigned}
 use Rattle.messages.specs.Records.{Rec1230, Counted, counted}
-use Rattle.messages.specs.Block1230.{maskSignals, masked, biasesAt, block1230, Read1230, outcome1230, left1230, read1230}
+use Rattle.messages.specs.Read1230.{maskSignals, masked, biasesAt, block1230, Read1230, outcome1230, left1230, read1230}
 use Rattle.messages.specs.ReadSteps.{Lists1230, lists1230, put1230}
 use Rattle.messages.proofs.CallLaws.{Call}
 use Rattle.messages.proofs.PutLaws.{put1230-front}

@@ -16,7 +16,7 @@ use Rattle.bits.proofs.FieldsLaws.{total-append, holds-append, put-all-holds, l
 use Rattle.messages.specs.Every.{Every}
 use Rattle.messages.specs.Reader.{many}
 use Rattle.messages.specs.Records.{Rec1059, records1059}
-use Rattle.messages.specs.Block1059.{biasAt, satelliteAt, block1059}
+use Rattle.messages.specs.Read1059.{biasAt, satelliteAt, block1059}
 use Rattle.messages.specs.Write1059.{ofSatellite, present, biasFields, satelliteFields, satellitesFrom, fields1059, write1059}
 use Rattle.messages.specs.InOrder.{recordsFrom, inOrder1059}
 use Rattle.messages.proofs.AcceptLaws.{field-then}

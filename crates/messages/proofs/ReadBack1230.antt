@@ -16,7 +16,7 @@ use Rattle.bits.proofs.SignedLaws.{twos-bits-lt}
 use Rattle.messages.specs.Every.{Every}
 use Rattle.messages.specs.Records.{Rec1230, rec1230, biasOf1230, records1230}
 use Rattle.messages.specs.Raw1230.{Raw1230}
-use Rattle.messages.specs.Block1230.{maskSignals, biasesAt, block1230}
+use Rattle.messages.specs.Read1230.{maskSignals, biasesAt, block1230}
 use Rattle.messages.specs.Write1230.{ofSignal, maskOf, biasFields16, inMaskOrder, fields1230, write1230}
 use Rattle.messages.specs.InOrder.{inOrder1230}
 use Rattle.messages.proofs.AcceptLaws.{field-then}

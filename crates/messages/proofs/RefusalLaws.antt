@@ -14,8 +14,8 @@ use Rattle.bits.specs.Signed.{twosOf}
 use Rattle.bits.proofs.ReadLaws.{refused-short}
 use Rattle.messages.specs.Reader.{many, roomFor}
 use Rattle.messages.specs.Records.{Rec1059, Rec1230}
-use Rattle.messages.specs.Block1059.{biasAt, satelliteAt, block1059, left1059, read1059}
-use Rattle.messages.specs.Block1230.{maskSignals, masked, biasesAt, block1230, left1230, read1230}
+use Rattle.messages.specs.Read1059.{biasAt, satelliteAt, block1059, left1059, read1059}
+use Rattle.messages.specs.Read1230.{maskSignals, masked, biasesAt, block1230, left1230, read1230}
 use Rattle.messages.proofs.ExtentLaws.{enough1059, block1230-extends}
 
 -- ---- Short alone

@@ -13,7 +13,7 @@ use Rattle.bits.proofs.FieldLaws.{field-lt}
 use Rattle.bits.proofs.FieldsLaws.{put-all-same}
 use Rattle.messages.specs.Every.{Every}
 use Rattle.messages.specs.Records.{Rec1230, rec1230, signalOf1230, biasOf1230, records1230}
-use Rattle.messages.specs.Block1230.{maskSignals, masked, block1230}
+use Rattle.messages.specs.Read1230.{maskSignals, masked, block1230}
 use Rattle.messages.specs.Write1230.{isIn, biasFields16, fields1230, writeRecords1230, write1230}
 use Rattle.messages.proofs.AcceptLaws.{field-accepted}
 use Rattle.messages.proofs.Biases1230.{biases-stand}

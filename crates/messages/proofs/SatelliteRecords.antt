@@ -6,7 +6,7 @@ use Rattle.bits.specs.Told.{Told, Accepted, Refused, andThen}
 use Rattle.bits.specs.Field.{Reading, reading, readUnsigned}
 use Rattle.messages.specs.Reader.{before, many}
 use Rattle.messages.specs.Records.{Rec1059}
-use Rattle.messages.specs.Block1059.{biasAt, satelliteAt, block1059}
+use Rattle.messages.specs.Read1059.{biasAt, satelliteAt, block1059}
 use Rattle.messages.specs.Satellites1059.{Sat, sat, satAt, satellites1059, recordsOf}
 use Rattle.messages.proofs.AcceptLaws.{then-accepted}
 

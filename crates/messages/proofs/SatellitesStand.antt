@@ -12,7 +12,7 @@ use Rattle.bits.proofs.FieldsLaws.{total-append, holds-join}
 use Rattle.messages.specs.Every.{Every}
 use Rattle.messages.specs.Reader.{many}
 use Rattle.messages.specs.Records.{Rec1059}
-use Rattle.messages.specs.Block1059.{biasAt}
+use Rattle.messages.specs.Read1059.{biasAt}
 use Rattle.messages.specs.Write1059.{biasFields}
 use Rattle.messages.specs.Satellites1059.{Sat, sat, satAt, satellites1059}
 use Rattle.messages.proofs.AcceptLaws.{then-accepted, field-accepted}

@@ -13,7 +13,7 @@ use lib.IntN.{ℤ}
 use lib.Seq.{drop-cons, take-suc}
 use Rattle.bits.specs.Told.{Told, andThen, signal, duplicate}
 use Rattle.messages.specs.Records.{records1230}
-use Rattle.messages.specs.Block1230.{maskSignals}
+use Rattle.messages.specs.Read1230.{maskSignals}
 use Rattle.messages.specs.Writer.{fine, firstFault}
 use Rattle.messages.specs.Write1230.{isIn, fault1230, firstRepeat}
 use Rattle.messages.specs.Steps1230.{unknownAt, repeatIn}

@@ -10,8 +10,8 @@ use Rattle.bits.specs.Fields.{total}
 use Rattle.bits.proofs.FieldsLaws.{total-append}
 use Rattle.messages.specs.Every.{Every}
 use Rattle.messages.specs.Records.{Rec1059, Rec1230, signalOf1230}
-use Rattle.messages.specs.Block1059.{block1059}
-use Rattle.messages.specs.Block1230.{maskSignals, masked, block1230}
+use Rattle.messages.specs.Read1059.{block1059}
+use Rattle.messages.specs.Read1230.{maskSignals, masked, block1230}
 use Rattle.messages.specs.Write1059.{biasFields}
 use Rattle.messages.specs.Satellites1059.{Sat, recordsOf}
 use Rattle.messages.proofs.AcceptLaws.{field-accepted}

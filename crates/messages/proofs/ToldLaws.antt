@@ -9,8 +9,8 @@ use lib.ListN.{getD}
 use Rattle.bits.specs.Told.{Told, Accepted, Refused, OneToOne}
 use Rattle.bits.proofs.ToldLaws.{found-again}
 use Rattle.messages.specs.Records.{Counted}
-use Rattle.messages.specs.Block1059.{Read1059, outcome1059}
-use Rattle.messages.specs.Block1230.{Read1230, outcome1230}
+use Rattle.messages.specs.Read1059.{Read1059, outcome1059}
+use Rattle.messages.specs.Read1230.{Read1230, outcome1230}
 use Rattle.messages.specs.Answers.{toldRead}
 use Rattle.messages.specs.declared.answer.BlockRead.{BlockRead}
 use Rattle.messages.specs.declared.answer.BlockRead.the-variants as R

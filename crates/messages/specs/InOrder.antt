@@ -2,7 +2,7 @@
 use mathlib.Core.List.{List, [], _∷_, _++_, map}
 use Prim.Native.Nat.{ℕ, zero, suc}
 use Rattle.messages.specs.Records.{Rec1059, Rec1230, rec1230}
-use Rattle.messages.specs.Block1230.{maskSignals}
+use Rattle.messages.specs.Read1230.{maskSignals}
 use Rattle.messages.specs.Write1059.{ofSatellite}
 use Rattle.messages.specs.Write1230.{ofSignal}
 

@@ -6,9 +6,9 @@ pub mod Metres
 pub mod Reader
 pub mod Records
 pub mod Writer
-pub mod Block1059
+pub mod Read1059
 pub mod Write1059
-pub mod Block1230
+pub mod Read1230
 pub mod Write1230
 pub mod Every
 pub mod InOrder

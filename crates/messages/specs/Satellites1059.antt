@@ -9,7 +9,7 @@ use Rattle.bits.specs.Field.{Reading, reading, readUnsigned}
 use Rattle.messages.specs.Every.{Every}
 use Rattle.messages.specs.Reader.{many}
 use Rattle.messages.specs.Records.{Rec1059, signalOf1059}
-use Rattle.messages.specs.Block1059.{biasAt}
+use Rattle.messages.specs.Read1059.{biasAt}
 use Rattle.messages.specs.Signals1059.{isSignal1059}
 
 -- a satellite as it was read: its number and its records

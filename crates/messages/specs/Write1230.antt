@@ -10,7 +10,7 @@ use Rattle.bits.specs.Signed.{twosBits}
 use Rattle.bits.specs.Field.{Wrote, wrote}
 use Rattle.bits.specs.Fields.{Field, bits}
 use Rattle.messages.specs.Records.{Rec1230, rec1230, records1230}
-use Rattle.messages.specs.Block1230.{maskSignals}
+use Rattle.messages.specs.Read1230.{maskSignals}
 use Rattle.messages.specs.Writer.{fine, firstFault, keep, unless, putRun}
 
 -- k is in the list

@@ -3,9 +3,9 @@
 // `specs/` says what each function answers: read it first. A refused call writes nothing.
 pub mod answer;
 pub mod bias;
-pub mod block1059;
-pub mod block1230;
 mod put;
+pub mod read1059;
+pub mod read1230;
 pub mod signals;
 pub mod signals1059;
 pub mod write1059;

@@ -11,7 +11,7 @@ ghost use Rattle.bits.specs.Fields.{putAll};
 ghost use Rattle.messages.specs.Answers.{toldBlock};
 ghost use Rattle.messages.specs.Put.{Fits, Did};
 ghost use Rattle.messages.specs.Records.{records1230};
-ghost use Rattle.messages.specs.Block1230.{maskSignals};
+ghost use Rattle.messages.specs.Read1230.{maskSignals};
 ghost use Rattle.messages.specs.Writer.{fine, firstFault};
 ghost use Rattle.messages.specs.Write1230.{isIn, ofSignal, biasFields16, fields1230, write1230};
 ghost use Rattle.messages.specs.Steps1230.{unknownAt, repeatIn};

@@ -11,8 +11,8 @@ use Rattle.bits.specs.Told.{Told, Accepted}
 use Rattle.bits.specs.Field.{Wrote, wrote}
 use Rattle.frames.specs.Call.{FedAnswer, Outcome, outcome}
 use Rattle.messages.specs.Records.{Counted}
-use Rattle.messages.specs.Block1059.{Read1059, outcome1059}
-use Rattle.messages.specs.Block1230.{Read1230, outcome1230}
+use Rattle.messages.specs.Read1059.{Read1059, outcome1059}
+use Rattle.messages.specs.Read1230.{Read1230, outcome1230}
 use Rattle.peerivolt.specs.Extra.{Numbers, numbers, inNumbers, returned, answered, reads}
 use Rattle.peerivolt.specs.Fields.{endValues, writes}
 use Rattle.peerivolt.specs.Scanner.{fedValues, feeds}

@@ -3,8 +3,8 @@ use mathlib.Core.List.{List, [], _∷_}
 use Prim.Native.Nat.{ℕ}
 use lib.IntN.{ℤ}
 use Rattle.messages.specs.Records.{Counted}
-use Rattle.messages.specs.Block1059.{Read1059}
-use Rattle.messages.specs.Block1230.{Read1230}
+use Rattle.messages.specs.Read1059.{Read1059}
+use Rattle.messages.specs.Read1230.{Read1230}
 use Rattle.peerivolt.specs.Extra.{Returned, answered}
 
 -- [0] how many records, [1] the end bit

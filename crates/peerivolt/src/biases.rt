@@ -1,7 +1,7 @@
 // Bias blocks, and biases in metres.
 ghost use mathlib.Core.Path.{_≡_};
-ghost use Rattle.messages.specs.Block1059.{read1059};
-ghost use Rattle.messages.specs.Block1230.{read1230};
+ghost use Rattle.messages.specs.Read1059.{read1059};
+ghost use Rattle.messages.specs.Read1230.{read1230};
 ghost use Rattle.messages.specs.Write1059.{write1059};
 ghost use Rattle.messages.specs.Write1230.{write1230};
 ghost use Rattle.messages.specs.Metres.{metres1059, metres1230};
@@ -16,8 +16,8 @@ use messages::answer::BlockRead;
 use messages::answer::BlockWritten;
 use messages::bias::Bias1059;
 use messages::bias::Bias1230;
-use messages::block1059;
-use messages::block1230;
+use messages::read1059;
+use messages::read1230;
 use messages::write1059;
 use messages::write1230;
 
@@ -37,7 +37,7 @@ pub extern "C" fn pv_1059_read(
         return 9;
     }
     extra::fill(
-        block_read(block1059::read(bytes, start, satellites, signals, biases)),
+        block_read(read1059::read(bytes, start, satellites, signals, biases)),
         extra,
     )
 }
@@ -78,7 +78,7 @@ pub extern "C" fn pv_1230_read(
         return 9;
     }
     extra::fill(
-        block_read(block1230::read(bytes, start, signals, biases)),
+        block_read(read1230::read(bytes, start, signals, biases)),
         extra,
     )
 }

@@ -7,8 +7,8 @@ use crate::fields;
 use crate::record;
 use messages::answer::BlockRead;
 use messages::answer::BlockWritten;
-use messages::block1059;
-use messages::block1230;
+use messages::read1059;
+use messages::read1230;
 use messages::write1059;
 use messages::write1230;
 
@@ -29,7 +29,7 @@ fn read_1059(bytes: &[u8], out: &mut [u8; 4096]) -> Answer {
     let mut satellites = [0xA5u8; 422];
     let mut signals = [0xA5u8; 422];
     let mut biases = [0x5A5Ai16; 422];
-    let told = block1059::read(
+    let told = read1059::read(
         record::part(bytes, 5, n),
         record::two(bytes, 1),
         &mut satellites,
@@ -49,7 +49,7 @@ fn read_1230(bytes: &[u8], out: &mut [u8; 4096]) -> Answer {
     let satellites = [0u8; 422];
     let mut signals = [0xA5u8; 422];
     let mut biases = [0x5A5Ai16; 422];
-    let told = block1230::read(
+    let told = read1230::read(
         record::part(bytes, 5, n),
         record::two(bytes, 1),
         &mut signals,

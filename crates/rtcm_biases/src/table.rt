@@ -1,7 +1,7 @@
 // The table of one block.
 use messages::answer::BlockRead;
-use messages::block1059;
-use messages::block1230;
+use messages::read1059;
+use messages::read1230;
 use messages::signals;
 use messages::signals::SignalFound;
 use messages::signals1059;
@@ -66,9 +66,9 @@ fn read(
     biases: &mut [i16; 422],
 ) -> BlockRead {
     if number == 1059 {
-        return block1059::read(data, start, satellites, signals, biases);
+        return read1059::read(data, start, satellites, signals, biases);
     }
-    block1230::read(data, start, signals, biases)
+    read1230::read(data, start, signals, biases)
 }
 
 // The head of a block: its place, and how many records it has or why it is refused.

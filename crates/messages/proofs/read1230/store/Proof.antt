@@ -4,7 +4,7 @@ use Prim.Native.Nat.{_-_, _≤_}
 use native.Mathlib.Omega.{arith}
 use borrow.Author.Needs.{needs}
 use lib.ListN.{length, drop}
-use Rattle.messages.specs.Block1230.{maskSignals, masked, biasesAt}
+use Rattle.messages.specs.Read1230.{maskSignals, masked, biasesAt}
 use Rattle.messages.specs.ReadSteps.{lists1230, put1230}
 use Rattle.messages.specs.Answers.{toldRead}
 use Rattle.messages.proofs.ArmLaws.{read-refused}
@@ -12,8 +12,8 @@ use Rattle.messages.proofs.PassLaws.{stored-answer}
 use Rattle.messages.proofs.StoreLaws.{Doing, begun, left-as, done}
 use Rattle.messages.proofs.PutLaws.{put1230-none}
 use Rattle.messages.proofs.Laws1230.{masked-lacks, masked-none, signal-placed, signal-read, signal-stored}
-use Rattle.messages.proofs.block1230.store.Statement.{statement}
-use Rattle.messages.proofs.block1230.store.Tie as tie
+use Rattle.messages.proofs.read1230.store.Statement.{statement}
+use Rattle.messages.proofs.read1230.store.Tie as tie
 
 abbrev Inv-loop : tie.InvT-loop
 Inv-loop bytes start mask numbers signals₀ biases₀ at₀ i₀ k₀ signals biases at i k =

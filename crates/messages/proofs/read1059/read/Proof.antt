@@ -9,8 +9,8 @@ use Rattle.messages.proofs.PassLaws.{counts-short}
 use Rattle.messages.proofs.CallLaws.{has-room, refuses, lacks-room, reads}
 use Rattle.messages.proofs.Read1059Laws.{too-long, uneven, uneven-2, block-cut, block-read, outcomeOf, call1059}
 use borrow.Author.Needs.{needs}
-use Rattle.messages.proofs.block1059.read.Statement.{statement}
-use Rattle.messages.proofs.block1059.read.Tie as tie
+use Rattle.messages.proofs.read1059.read.Statement.{statement}
+use Rattle.messages.proofs.read1059.read.Tie as tie
 
 returns : tie.Need-returns
 returns c = too-long _ _ _ _ _ (omega arith)

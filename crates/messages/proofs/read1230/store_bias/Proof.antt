@@ -9,8 +9,8 @@ use Rattle.messages.proofs.PassLaws.{placed-one, stored-short}
 use Rattle.messages.proofs.PutLaws.{put1230-none}
 use Rattle.messages.proofs.Laws1230.{bias-cut, bias-read, bias-stored}
 use borrow.Author.Needs.{needs}
-use Rattle.messages.proofs.block1230.store_bias.Statement.{statement}
-use Rattle.messages.proofs.block1230.store_bias.Tie as tie
+use Rattle.messages.proofs.read1230.store_bias.Statement.{statement}
+use Rattle.messages.proofs.read1230.store_bias.Tie as tie
 
 read-twos-requires : tie.Need-read-twos-requires
 read-twos-requires c κs = search needs

@@ -2,8 +2,8 @@
 use native.Mathlib.Omega.{arith}
 use Rattle.messages.proofs.Laws1230.{masked-length}
 use borrow.Author.Needs.{needs}
-use Rattle.messages.proofs.block1230.signals_in.Statement.{statement}
-use Rattle.messages.proofs.block1230.signals_in.Tie as tie
+use Rattle.messages.proofs.read1230.signals_in.Statement.{statement}
+use Rattle.messages.proofs.read1230.signals_in.Tie as tie
 
 add-result : tie.Need-add-result
 add-result c = search needs

@@ -1,9 +1,9 @@
-// The bias block of message 1059.
+// Reading the bias block of message 1059.
 ghost use mathlib.Core.Path.{_≡_};
 ghost use Prim.Native.Nat.{ℕ, _*_, _≤_};
 ghost use lib.ListN.{length};
 ghost use Rattle.messages.specs.Reader.{many};
-ghost use Rattle.messages.specs.Block1059.{biasAt, satelliteAt, outcome1059, read1059};
+ghost use Rattle.messages.specs.Read1059.{biasAt, satelliteAt, outcome1059, read1059};
 ghost use Rattle.messages.specs.Answers.{toldRead};
 ghost use Rattle.messages.specs.ReadSteps.{counts, Stored, lists1059, put1059, Ready1059};
 use crate::answer::BlockRead;

@@ -7,8 +7,8 @@ use Rattle.messages.proofs.ArmLaws.{unsigned-cut, value-within}
 use Rattle.messages.proofs.PassLaws.{counts-short}
 use Rattle.messages.proofs.Laws1059.{satellite-cut, satellite-cut-2, satellite-read}
 use borrow.Author.Needs.{needs}
-use Rattle.messages.proofs.block1059.measure_satellite.Statement.{statement}
-use Rattle.messages.proofs.block1059.measure_satellite.Tie as tie
+use Rattle.messages.proofs.read1059.measure_satellite.Statement.{statement}
+use Rattle.messages.proofs.read1059.measure_satellite.Tie as tie
 
 read-unsigned-requires : tie.Need-read-unsigned-requires
 read-unsigned-requires c κs = search needs

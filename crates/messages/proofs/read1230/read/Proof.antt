@@ -2,7 +2,7 @@
 use mathlib.Core.Path.{refl, sym, ap, _∙_}
 use native.Mathlib.Omega.{arith}
 use Rattle.bits.specs.Answers.{toldUnsigned}
-use Rattle.messages.specs.Block1230.{maskSignals, masked}
+use Rattle.messages.specs.Read1230.{maskSignals, masked}
 use Rattle.messages.specs.ReadSteps.{put1230}
 use Rattle.messages.specs.Answers.{toldRead}
 use Rattle.messages.proofs.ArmLaws.{unsigned-cut, value-within, short-refused, read-refused}
@@ -10,8 +10,8 @@ use Rattle.messages.proofs.PassLaws.{counts-short}
 use Rattle.messages.proofs.CallLaws.{has-room, refuses, lacks-room, reads}
 use Rattle.messages.proofs.Read1230Laws.{too-long, uneven, block-cut, block-read, outcomeOf, call1230}
 use borrow.Author.Needs.{needs}
-use Rattle.messages.proofs.block1230.read.Statement.{statement}
-use Rattle.messages.proofs.block1230.read.Tie as tie
+use Rattle.messages.proofs.read1230.read.Statement.{statement}
+use Rattle.messages.proofs.read1230.read.Tie as tie
 
 returns : tie.Need-returns
 returns c = too-long _ _ _ _ (omega arith)

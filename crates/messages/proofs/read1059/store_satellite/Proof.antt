@@ -8,8 +8,8 @@ use Rattle.messages.proofs.PassLaws.{placed-as, stored-short, stored-as
 use Rattle.messages.proofs.PutLaws.{put1059-none}
 use Rattle.messages.proofs.Laws1059.{satellite-cut, satellite-cut-2, satellite-read}
 use borrow.Author.Needs.{needs}
-use Rattle.messages.proofs.block1059.store_satellite.Statement.{statement}
-use Rattle.messages.proofs.block1059.store_satellite.Tie as tie
+use Rattle.messages.proofs.read1059.store_satellite.Statement.{statement}
+use Rattle.messages.proofs.read1059.store_satellite.Tie as tie
 
 read-unsigned-requires : tie.Need-read-unsigned-requires
 read-unsigned-requires c κs = search needs

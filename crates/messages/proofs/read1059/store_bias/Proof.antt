@@ -9,8 +9,8 @@ use Rattle.messages.proofs.PassLaws.{placed-one, stored-short}
 use Rattle.messages.proofs.PutLaws.{put1059-none}
 use Rattle.messages.proofs.Laws1059.{bias-cut, bias-cut-2, bias-read, bias-stored}
 use borrow.Author.Needs.{needs}
-use Rattle.messages.proofs.block1059.store_bias.Statement.{statement}
-use Rattle.messages.proofs.block1059.store_bias.Tie as tie
+use Rattle.messages.proofs.read1059.store_bias.Statement.{statement}
+use Rattle.messages.proofs.read1059.store_bias.Tie as tie
 
 read-unsigned-requires : tie.Need-read-unsigned-requires
 read-unsigned-requires c κs = search needs

@@ -1,9 +1,9 @@
-// The bias block of message 1230.
+// Reading the bias block of message 1230.
 ghost use mathlib.Core.Path.{_≡_};
 ghost use mathlib.Core.List.{List, [], _∷_};
 ghost use Prim.Native.Nat.{ℕ, _*_, _≤_, _<_};
 ghost use lib.ListN.{length};
-ghost use Rattle.messages.specs.Block1230.{maskSignals, masked, biasesAt, outcome1230, read1230};
+ghost use Rattle.messages.specs.Read1230.{maskSignals, masked, biasesAt, outcome1230, read1230};
 ghost use Rattle.messages.specs.Answers.{toldRead};
 ghost use Rattle.messages.specs.ReadSteps.{counts, Stored, lists1230, put1230, Ready1230};
 use crate::answer::BlockRead;

@@ -5,13 +5,13 @@ use native.Mathlib.Omega.{arith}
 use borrow.Author.Needs.{needs}
 use Rattle.messages.specs.Reader.{many}
 use Rattle.messages.specs.ReadSteps.{counts}
-use Rattle.messages.specs.Block1059.{satelliteAt}
+use Rattle.messages.specs.Read1059.{satelliteAt}
 use Rattle.messages.specs.Answers.{toldRead}
 use Rattle.messages.proofs.ArmLaws.{read-refused}
 use Rattle.messages.proofs.PassLaws.{counts-none, many-all, many-none, many-counts-on, many-counts-stop}
 use Rattle.messages.proofs.Laws1059.{few-more}
-use Rattle.messages.proofs.block1059.measure.Statement.{statement}
-use Rattle.messages.proofs.block1059.measure.Tie as tie
+use Rattle.messages.proofs.read1059.measure.Statement.{statement}
+use Rattle.messages.proofs.read1059.measure.Tie as tie
 
 abbrev Inv-loop : tie.InvT-loop
 Inv-loop bytes start n at₀ i₀ k₀ at i k =

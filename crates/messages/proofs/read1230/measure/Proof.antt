@@ -2,8 +2,8 @@
 use native.Mathlib.Omega.{arith}
 use Rattle.messages.proofs.Laws1230.{biases-fit, no-bias}
 use borrow.Author.Needs.{needs}
-use Rattle.messages.proofs.block1230.measure.Statement.{statement}
-use Rattle.messages.proofs.block1230.measure.Tie as tie
+use Rattle.messages.proofs.read1230.measure.Statement.{statement}
+use Rattle.messages.proofs.read1230.measure.Tie as tie
 
 mul-whole : tie.Need-mul-whole
 mul-whole c = search needs

@@ -2,8 +2,8 @@
 use native.Mathlib.Omega.{arith}
 use Rattle.messages.proofs.Laws1059.{biases-fit, no-signal, no-bias}
 use borrow.Author.Needs.{needs}
-use Rattle.messages.proofs.block1059.measure_biases.Statement.{statement}
-use Rattle.messages.proofs.block1059.measure_biases.Tie as tie
+use Rattle.messages.proofs.read1059.measure_biases.Statement.{statement}
+use Rattle.messages.proofs.read1059.measure_biases.Tie as tie
 
 mul-all : tie.Need-mul-all
 mul-all c = search needs

@@ -6,14 +6,14 @@ use borrow.Author.Needs.{needs}
 use lib.ListN.{length}
 use Rattle.messages.specs.Reader.{many}
 use Rattle.messages.specs.ReadSteps.{lists1059, put1059}
-use Rattle.messages.specs.Block1059.{satelliteAt}
+use Rattle.messages.specs.Read1059.{satelliteAt}
 use Rattle.messages.specs.Answers.{toldRead}
 use Rattle.messages.proofs.ArmLaws.{read-refused}
 use Rattle.messages.proofs.PassLaws.{many-all, stored-answer}
 use Rattle.messages.proofs.StoreLaws.{Doing, begun, left-as, turn-placed, turn-read, turn-stored, turns-done}
 use Rattle.messages.proofs.PutLaws.{put1059-none, put1059-on}
-use Rattle.messages.proofs.block1059.store.Statement.{statement}
-use Rattle.messages.proofs.block1059.store.Tie as tie
+use Rattle.messages.proofs.read1059.store.Statement.{statement}
+use Rattle.messages.proofs.read1059.store.Tie as tie
 
 abbrev Inv-loop : tie.InvT-loop
 Inv-loop bytes start n satellites₀ signals₀ biases₀ at₀ i₀ k₀ satellites signals biases at i k =
