@@ -8,9 +8,21 @@ use native.Mathlib.Omega.{arith}
 use borrow.Author.Tests.{ne-eqb}
 use lib.Dec.{eqb}
 use lib.ListN.{length}
-use Rattle.bits.specs.Fields.{total}
+use Rattle.bits.specs.Fields.{bits, total}
 use Rattle.messages.specs.Records.{Rec1059, rec1059}
 use Rattle.messages.specs.Write1059.{ofSatellite, biasFields, satelliteFields, satellitesFrom}
+
+-- ---- the fields of a satellite, by how many records it has
+
+pub fields-some : (a : ℕ) (rs : List Rec1059) → (length rs ≡ 0 → ⊥) → satelliteFields a rs ≡ bits 6 a ∷ bits 5 (length rs) ∷ biasFields rs
+unfolding satelliteFields
+fields-some a [] n = absurd (n refl)
+fields-some a (r ∷ rs) n = refl
+
+pub fields-none : (a : ℕ) (rs : List Rec1059) → length rs ≡ 0 → satelliteFields a rs ≡ []
+unfolding satelliteFields
+fields-none a [] n = refl
+fields-none a (r ∷ rs) n = absurd (omega arith)
 
 -- ---- the satellites from a on
 

@@ -1,64 +1,23 @@
 -- What an accepted call writes into the bias block of message 1059 fits its fields. Assumes nothing.
 use mathlib.Core.Path.{_≡_, refl}
-use mathlib.Core.Bool.{Bool, true, false, cond, _&&_}
+use mathlib.Core.Bool.{Bool, true, false, cond}
 use mathlib.Core.List.{List, [], _∷_}
-use Prim.Native.Nat.{ℕ, zero, suc, _+_, _^_, _≤_, _<_}
+use Prim.Native.Nat.{ℕ, zero, suc, _+_, _≤_, _<_}
 use native.Mathlib.Omega.{arith}
-use borrow.Author.Tests.{ltb-true, ltb-false, eqb-true}
-use lib.ListN.{length, getD}
+use borrow.Author.Tests.{ltb-false, eqb-true}
+use lib.ListN.{length}
 use lib.Dec.{eqb, ltb}
 use Rattle.bits.specs.Fields.{Fit}
 use Rattle.bits.proofs.FieldsLaws.{fit-append}
 use Rattle.bits.proofs.SignedLaws.{twos-bits-lt}
 use Rattle.messages.specs.Every.{Every}
 use Rattle.messages.specs.Records.{Rec1059, rec1059}
-use Rattle.messages.specs.Signals.{Entry, entry, At, isAt, signalOf, sig}
-use Rattle.messages.specs.Signals1059.{edition1, editions, signals1059, isSignal1059}
 use Rattle.messages.specs.Writer.{fine, keep}
 use Rattle.messages.specs.Write1059.{ofSatellite, crowded, present, biasFields, satelliteFields, satellitesFrom, fields1059}
+use Rattle.messages.proofs.MaskLaws.{signal-fits}
 use Rattle.messages.proofs.AcceptLaws.{not-refused}
 use Rattle.messages.proofs.Biases1059.{Own}
 use Rattle.messages.proofs.Accepts1059.{Writable, Writes}
-
--- ---- a signal of any edition has five bits
-
--- a test, computed over all editions
-narrow : List Entry → Bool
-narrow [] = true
-narrow (entry m b l ∷ t) = ltb m 32 && narrow t
-
-allNarrow : List (List Entry) → Bool
-allNarrow [] = true
-allNarrow (t ∷ ts) = narrow t && allNarrow ts
-
-and-true : (a b : Bool) → (a && b) ≡ true → (a ≡ true) × (b ≡ true)
-and-true true b e = (refl, e)
-and-true false b e = let z : _≡_ {A = ℕ} 0 1 = cc in absurd (omega arith)
-
-narrow-at : (ts : List (List Entry)) (i : ℕ) → allNarrow ts ≡ true → narrow (getD ts i []) ≡ true
-unfolding narrow allNarrow
-narrow-at [] i e = refl
-narrow-at (t ∷ ts) zero e = and-true (narrow t) (allNarrow ts) e .0
-narrow-at (t ∷ ts) (suc i) e = narrow-at ts i (and-true (narrow t) (allNarrow ts) e .1)
-
-narrow-editions : allNarrow editions ≡ true
-unfolding narrow allNarrow edition1
-narrow-editions = refl
-
-narrow-signal : (t : List Entry) (n : ℕ) → narrow t ≡ true → isAt (signalOf t n) ≡ true → n < 32
-unfolding narrow signalOf
-narrow-signal [] n w e = let z : _≡_ {A = ℕ} 0 1 = cc in absurd (omega arith)
-narrow-signal (entry m b l ∷ t) n w e =
-    let k = and-true (ltb m 32) (narrow t) w in
-    go (narrow-signal t n (k .1)) (ltb-true m 32 (k .0)) (eqb m n) refl e
-  where
-    go : (isAt (signalOf t n) ≡ true → n < 32) → m < 32 → (q : Bool) → eqb m n ≡ q → isAt (cond q (At (sig b l)) (signalOf t n)) ≡ true → n < 32
-    go ih h true q e = omega (arith, eqb-true m n q)
-    go ih h false q e = ih e
-
-pub signal-fits : (e g : ℕ) → isSignal1059 e g ≡ true → g < 2 ^ 5
-unfolding isSignal1059 signals1059
-signal-fits e g h = narrow-signal (getD editions e []) g (narrow-at editions e narrow-editions) h
 
 -- ---- the records of one satellite
 

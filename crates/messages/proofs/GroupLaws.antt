@@ -15,6 +15,7 @@ use Rattle.messages.specs.Records.{Rec1059, rec1059}
 use Rattle.messages.specs.Writer.{fine, keep}
 use Rattle.messages.specs.Write1059.{ofSatellite, crowded, present, biasFields, satelliteFields, satellitesFrom}
 use Rattle.messages.specs.Satellites1059.{Sat, recordsOf, AscendingFrom}
+use Rattle.messages.proofs.Fields1059Laws.{fields-some}
 use Rattle.messages.proofs.Biases1059.{Own}
 use Rattle.messages.proofs.SatellitesStand.{Sound, oneSat, satFields}
 
@@ -57,11 +58,6 @@ pub record Laid (a n : ℕ) (rs : List Rec1059) (fs : List Field) (k : ℕ) : Ty
   pub count : present a n rs ≡ k
   pub thin : crowded a n rs ≡ fine
 
-some-fields : (a : ℕ) (g : List Rec1059) → 1 ≤ length g → satelliteFields a g ≡ bits 6 a ∷ bits 5 (length g) ∷ biasFields g
-unfolding satelliteFields
-some-fields a [] h = absurd (omega arith)
-some-fields a (r ∷ g) h = refl
-
 laid-none : (a : ℕ) (rs : List Rec1059) → Laid a 0 rs [] 0
 unfolding satellitesFrom present crowded
 laid-none a rs = record { fields = refl; count = refl; thin = refl }
@@ -78,7 +74,7 @@ module _ (a n : ℕ) (rs : List Rec1059) (fs : List Field) (k : ℕ) (l : Laid (
   unfolding satellitesFrom present crowded
   laid-hit g e some few =
       record {
-        fields = ap₂ (λ (u v : List Field). u ++ v) (ap (satelliteFields a) e ∙ some-fields a g some) (l .fields);
+        fields = ap₂ (λ (u v : List Field). u ++ v) (ap (satelliteFields a) e ∙ fields-some a g (λ z. omega arith)) (l .fields);
         count = rw (e, ne-eqb (length g) 0 (λ z. omega arith)) (omega (arith, l .count));
         thin = rw (e, le-ltb 31 (length g) few) (l .thin);
       }

@@ -26,7 +26,6 @@ pub mod MaskOrderLaws
 pub mod Accepts1230
 pub mod ReadBack1230
 pub mod SameBits1230
-pub mod SufficeLaws
 pub mod KeepLaws
 pub mod MarkedExamples
 pub mod PassLaws

@@ -1,8 +1,9 @@
 -- The mask of a table tells its numbers. Assumes nothing.
 use mathlib.Core.Path.{_≡_, refl, _∙_, sym}
-use mathlib.Core.Bool.{Bool, true, false, _&&_, Bool·beq}
+use mathlib.Core.Bool.{Bool, true, false, _&&_, Bool·beq, true≢false}
 use mathlib.Core.List.{List, [], _∷_}
-use Prim.Native.Nat.{ℕ, _≤_}
+use Prim.Native.Nat.{ℕ, _^_, _≤_, _<_}
+use native.Mathlib.Decide.{decLt}
 use native.Mathlib.Omega.{arith}
 use borrow.Author.Tests.{ltb-true, ltb-false, le-ltb, ne-eqb}
 use lib.Dec.{T, ltb, ltb→lt}
@@ -55,3 +56,11 @@ tells-by t h n false e =
 pub mask-tells : (edition n : ℕ) → inMask (maskOf (signals1059 edition)) n ≡ isSignal1059 edition n
 unfolding isSignal1059
 mask-tells edition n = tells-by (signals1059 edition) (good-edition edition) n (ltb n 32) refl
+
+-- so a signal of any edition has five bits
+pub signal-fits : (edition n : ℕ) → isSignal1059 edition n ≡ true → n < 2 ^ 5
+signal-fits edition n h = go (decLt n 32)
+  where
+    go : Dec (n < 32) → n < 32
+    go (yes l) = l
+    go (no l) = absurd (true≢false (sym (mask-tells edition n ∙ h) ∙ wide-out (maskOf (signals1059 edition)) n (omega arith)))

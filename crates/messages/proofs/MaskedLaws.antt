@@ -2,7 +2,7 @@
 use mathlib.Core.Path.{_≡_, refl, sym, ap, subst, _∙_}
 use mathlib.Core.Bool.{Bool, true, false, cond}
 use mathlib.Core.List.{List, [], _∷_, _++_, map}
-use Prim.Native.Nat.{ℕ, suc, _+_, _*_, _/_, _%_, _^_, _≤_}
+use Prim.Native.Nat.{ℕ, suc, _+_, _*_, _/_, _%_, _^_}
 use native.Mathlib.Nat.{mod-one, mod-lt, zero-lt-suc}
 use native.Mathlib.Omega.{arith}
 use borrow.Author.Tests.{eq-eqb, ne-eqb, eqb-true, eqb-false}
@@ -46,15 +46,6 @@ module _ (m : ℕ) where
       go : (b : Bool) → Different (masked gs m) → Different (keep b g (masked gs m))
       go true r = (every-masked (λ h. g ≡ h → ⊥) gs (d .0), r)
       go false r = r
-
-  pub masked-few : (gs : List ℕ) → length (masked gs m) ≤ length gs
-  unfolding masked
-  masked-few [] = omega arith
-  masked-few (g ∷ gs) = go (eqb (m / 2 ^ length gs % 2) 1) (masked-few gs)
-    where
-      go : (b : Bool) → length (masked gs m) ≤ length gs → length (keep b g (masked gs m)) ≤ suc (length gs)
-      go true h = omega arith
-      go false h = omega arith
 
 -- ---- one digit more of a mask
 

@@ -16,7 +16,7 @@ use Rattle.messages.specs.Reader.{many, roomFor}
 use Rattle.messages.specs.Records.{Rec1059, Rec1230}
 use Rattle.messages.specs.Read1059.{biasAt, satelliteAt, block1059, left1059, read1059}
 use Rattle.messages.specs.Read1230.{maskSignals, masked, biasesAt, block1230, left1230, read1230}
-use Rattle.messages.proofs.ExtentLaws.{enough1059, block1230-extends}
+use Rattle.messages.proofs.ExtentLaws.{suffices-1059, suffices-1230}
 
 -- ---- Short alone
 
@@ -75,34 +75,31 @@ roomy (Accepted r) k n o h l {m} e =
     omega arith
 roomy (Refused x carried) k n o h l {m} e = let d : x ≡ 8 = cc in omega (arith, o .number refl)
 
+-- the sizes do not answer Room
+not-size : {A : Type 0} (b : Bool) (t : Told A) {m : ℕ} → cond b size t ≡ room m → (b ≡ false) × (t ≡ room m)
+not-size true t e = let z : _≡_ {A = ℕ} 9 8 = cc in absurd (omega arith)
+not-size false t e = (refl, e)
+
 module _ (s : List ℕ) (p : ℕ) where
   pub never-room1059 : (sats gs : List ℕ) (zs : List ℤ) → 422 ≤ length sats → {m : ℕ} → read1059 s p sats gs zs .answer ≡ room m → ⊥
   unfolding read1059
-  never-room1059 sats gs zs h {m} e = go (ltb 1023 (length s)) refl (not (eqb (length sats) (length gs))) (not (eqb (length sats) (length zs))) e
+  never-room1059 sats gs zs h {m} e =
+      let a = not-size (ltb 1023 (length s)) _ (told _ e) in
+      let b = not-size (not (eqb (length sats) (length gs))) _ (a .1) in
+      let c = not-size (not (eqb (length sats) (length zs))) _ (b .1) in
+      roomy (block1059 s p) 422 (length sats) (short1059 s (ltb-false 1023 (length s) (a .0)) p) (λ r f. suffices-1059 s p f) h (c .1)
     where
       told : (t : Told (Reading (List Rec1059))) → left1059 sats gs zs t .answer ≡ room m → t ≡ room m
       told (Accepted r) e = let z : _≡_ {A = ℕ} 0 1 = cc in absurd (omega arith)
       told (Refused n carried) e = cc
 
-      go : (a : Bool) → ltb 1023 (length s) ≡ a → (b c : Bool)
-          → left1059 sats gs zs (cond a size (cond b size (cond c size (andThen (block1059 s p) (roomFor (length sats)))))) .answer ≡ room m → ⊥
-      go true d b c e = let z : _≡_ {A = ℕ} 9 8 = cc in omega arith
-      go false d true c e = let z : _≡_ {A = ℕ} 9 8 = cc in omega arith
-      go false d false true e = let z : _≡_ {A = ℕ} 9 8 = cc in omega arith
-      go false d false false e =
-          roomy (block1059 s p) 422 (length sats) (short1059 s (ltb-false 1023 (length s) d) p) (λ r f. enough1059 s p f) h (told (andThen (block1059 s p) (roomFor (length sats))) e)
-
   pub never-room1230 : (gs : List ℕ) (zs : List ℤ) → 4 ≤ length gs → {m : ℕ} → read1230 s p gs zs .answer ≡ room m → ⊥
   unfolding read1230
-  never-room1230 gs zs h {m} e = go (ltb 1023 (length s)) refl (not (eqb (length gs) (length zs))) e
+  never-room1230 gs zs h {m} e =
+      let a = not-size (ltb 1023 (length s)) _ (told _ e) in
+      let b = not-size (not (eqb (length gs) (length zs))) _ (a .1) in
+      roomy (block1230 s p) 4 (length gs) (short1230 s (ltb-false 1023 (length s) (a .0)) p) (λ r f. suffices-1230 s p f) h (b .1)
     where
       told : (t : Told (Reading (List Rec1230))) → left1230 gs zs t .answer ≡ room m → t ≡ room m
       told (Accepted r) e = let z : _≡_ {A = ℕ} 0 1 = cc in absurd (omega arith)
       told (Refused n carried) e = cc
-
-      go : (a : Bool) → ltb 1023 (length s) ≡ a → (b : Bool)
-          → left1230 gs zs (cond a size (cond b size (andThen (block1230 s p) (roomFor (length gs))))) .answer ≡ room m → ⊥
-      go true d b e = let z : _≡_ {A = ℕ} 9 8 = cc in omega arith
-      go false d true e = let z : _≡_ {A = ℕ} 9 8 = cc in omega arith
-      go false d false e =
-          roomy (block1230 s p) 4 (length gs) (short1230 s (ltb-false 1023 (length s) d) p) (λ r f. block1230-extends s p f .few) h (told (andThen (block1230 s p) (roomFor (length gs))) e)

@@ -17,7 +17,7 @@ use Rattle.messages.specs.Satellites1059.{Sat, satellites1059, recordsOf
 use Rattle.messages.proofs.EveryLaws.{every-join, every-split}
 use Rattle.messages.proofs.Biases1059.{Own}
 use Rattle.messages.proofs.SatellitesStand.{Sound, satFields, block-stands}
-use Rattle.messages.proofs.SufficeLaws.{taken}
+use Rattle.messages.proofs.ExtentLaws.{taken}
 use Rattle.messages.proofs.GroupLaws.{laid}
 use Rattle.messages.proofs.Accepts1059.{Writable, Writes, records-written, call-written}
 

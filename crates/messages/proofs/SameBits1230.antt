@@ -15,10 +15,11 @@ use Rattle.messages.specs.Every.{Every}
 use Rattle.messages.specs.Records.{Rec1230, rec1230, signalOf1230, biasOf1230, records1230}
 use Rattle.messages.specs.Read1230.{maskSignals, masked, block1230}
 use Rattle.messages.specs.Write1230.{isIn, biasFields16, fields1230, writeRecords1230, write1230}
+use Rattle.messages.proofs.EveryLaws.{every-true, every-unmap}
 use Rattle.messages.proofs.AcceptLaws.{field-accepted}
 use Rattle.messages.proofs.Biases1230.{biases-stand}
 use Rattle.messages.proofs.MaskedLaws.{Different, every-masked, masked-different, named}
-use Rattle.messages.proofs.SufficeLaws.{suffices-1230}
+use Rattle.messages.proofs.ExtentLaws.{suffices-1230}
 use Rattle.messages.proofs.RepeatLaws.{no-repeat}
 use Rattle.messages.proofs.Accepts1230.{Known, Writes, known-fine, records-written, call-written}
 
@@ -34,14 +35,6 @@ different = omega arith
 in-mask : Every (λ g. isIn g maskSignals ≡ true) maskSignals
 unfolding isIn
 in-mask = (refl, (refl, (refl, (refl, tt))))
-
-every-unmap : (P : ℕ → Type 0) (rs : List Rec1230) → Every P (map signalOf1230 rs) → Every (λ r. P (signalOf1230 r)) rs
-every-unmap P [] e = tt
-every-unmap P (r ∷ rs) e = (e .0, every-unmap P rs (e .1))
-
-every-true : {A : Type 0} (P : A → Type 0) → ((x : A) → P x) → (xs : List A) → Every P xs
-every-true P f [] = tt
-every-true P f (x ∷ xs) = (f x, every-true P f xs)
 
 none-seen : (g : ℕ) → isIn g [] ≡ false
 unfolding isIn
@@ -61,7 +54,7 @@ written-back-1230 s p {q} rs h bytes =
     let in-data : p + total (fields1230 rs) ≤ length s * 8 = omega (arith, b .within (a .within)) in
     let stands : Holds s p (fields1230 rs) = subst (Holds s p) (sym f) (refl, b .holds) in
     let unlike : Different (map signalOf1230 rs) = rw (b .signals) (masked-different m maskSignals different) in
-    let known : Every Known rs = every-unmap (λ g. isIn g maskSignals ≡ true) rs (rw (b .signals) (every-masked m (λ g. isIn g maskSignals ≡ true) maskSignals in-mask)) in
+    let known : Every Known rs = every-unmap (λ g. isIn g maskSignals ≡ true) signalOf1230 rs (rw (b .signals) (every-masked m (λ g. isIn g maskSignals ≡ true) maskSignals in-mask)) in
     let w : Writes s p rs =
     record {
       clean = known-fine 0 rs known;
@@ -72,7 +65,7 @@ written-back-1230 s p {q} rs h bytes =
     (record {
       few = a .few;
       biases = length-map rs signalOf1230 ∙ sym (length-map rs biasOf1230);
-      most = omega (arith, length-map rs signalOf1230, suffices-1230 s p rs h);
+      most = omega (arith, length-map rs signalOf1230, suffices-1230 s p h);
     })
     ∙ ap (writeRecords1230 s p) (columns1230 rs)
     ∙ records-written s p rs w

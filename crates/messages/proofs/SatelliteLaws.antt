@@ -7,7 +7,7 @@ use native.Mathlib.Decide.{ℕ-discrete}
 use native.Mathlib.Omega.{arith}
 use borrow.Author.Tests.{eq-eqb, ne-eqb}
 use lib.Dec.{eqb}
-use lib.ListN.{length, getD}
+use lib.ListN.{length, getD, List·getD-eq-default}
 use lib.IntN.{ℤ, pos}
 use Rattle.bits.specs.Signed.{twosBits}
 use Rattle.bits.specs.Fields.{bits}
@@ -17,12 +17,8 @@ use Rattle.messages.specs.Write1059.{ofSatellite, biasFields, satelliteF
 use Rattle.messages.specs.Steps1059.{nextOf, countOf}
 use Rattle.messages.proofs.LeftLaws.{Left, left-all, left-as}
 use Rattle.messages.proofs.RecordLaws.{from1059, next1059, end1059}
+use Rattle.messages.proofs.Fields1059Laws.{fields-some, fields-none}
 use Rattle.messages.proofs.LinkLaws.{getD-any, next-hit, next-miss, next-end}
-
-getD-behind : (l : List ℕ) (i d : ℕ) → length l ≤ i → getD l i d ≡ d
-getD-behind [] i d h = refl
-getD-behind (x ∷ l) zero d h = absurd (omega arith)
-getD-behind (x ∷ l) (suc i) d h = getD-behind l i d (omega arith)
 
 -- a satellite has as many records as its number stands in the list
 pub count-records : (a : ℕ) (sats gs : List ℕ) (zs : List ℤ) → length sats ≡ length gs → length sats ≡ length zs
@@ -37,18 +33,6 @@ count-records a (b ∷ sats) (g ∷ gs) (z ∷ zs) p q = go (eqb b a) (count-rec
         → length (keep x (rec1059 b g z) (ofSatellite a (records1059 sats gs zs))) ≡ cond x 1 0 + countOf a sats
     go true e = omega arith
     go false e = omega arith
-
--- ---- the fields of a satellite, by how many records it has
-
-fields-some : (a : ℕ) (rs : List Rec1059) → (length rs ≡ 0 → ⊥) → satelliteFields a rs ≡ bits 6 a ∷ bits 5 (length rs) ∷ biasFields rs
-unfolding satelliteFields
-fields-some a [] n = absurd (n refl)
-fields-some a (r ∷ rs) n = refl
-
-fields-none : (a : ℕ) (rs : List Rec1059) → length rs ≡ 0 → satelliteFields a rs ≡ []
-unfolding satelliteFields
-fields-none a [] n = refl
-fields-none a (r ∷ rs) n = absurd (omega arith)
 
 module _ (sats gs : List ℕ) (zs : List ℤ) (lg : length sats ≡ length gs) (lz : length sats ≡ length zs) (a : ℕ) where
   pub satellite-none : (n : ℕ) → n ≡ countOf a sats → n ≡ 0 → satelliteFields a (ofSatellite a (records1059 sats gs zs)) ≡ []
@@ -82,7 +66,7 @@ module _ (sats gs : List ℕ) (zs : List ℤ) (lg : length sats ≡ length gs) (
   skips zero i e =
       let n : nextOf sats a i ≡ i = next-end sats a i (omega arith) in
       record {
-        stands = rw n (getD-behind sats i a (omega arith));
+        stands = rw n (List·getD-eq-default sats a (omega arith));
         records = rw n;
       }
   skips (suc k) i e = go (ℕ-discrete (getD sats i 0) a) (skips k (suc i) (omega arith))

@@ -1,5 +1,5 @@
 -- Number to signal and signal to number undo each other, in every table. Assumes nothing.
-use mathlib.Core.Path.{_≡_, refl, ap}
+use mathlib.Core.Path.{_≡_, refl, sym, ap, subst}
 use mathlib.Core.Bool.{Bool, true, false, cond, _&&_}
 use mathlib.Core.List.{List, [], _∷_, List·Memᴰ, List·Memᴰ·head, List·Memᴰ·tail}
 use Prim.Native.Nat.{ℕ}
@@ -70,14 +70,6 @@ edition-undoes edition =
 none-at : {A : Type 0} {a : A} → None ≡ At a → ⊥
 none-at e = let z : _≡_ {A = ℕ} 0 1 = cc in omega arith
 
-and-left : (a b : Bool) → (a && b) ≡ true → a ≡ true
-and-left true b e = refl
-and-left false b e = e
-
-and-right : (a b : Bool) → (a && b) ≡ true → b ≡ true
-and-right true b e = e
-and-right false b e = let z : _≡_ {A = ℕ} 0 1 = cc in absurd (omega arith)
-
 signal-line : (m c k : ℕ) (t : List Entry) (n b l : ℕ) → (signalOf t n ≡ At (sig b l) → List·Memᴰ (entry n b l) t) → (q : Bool) → eqb m n ≡ q → cond q (At (sig c k)) (signalOf t n) ≡ At (sig b l) → List·Memᴰ (entry n b l) (entry m c k ∷ t)
 signal-line m c k t n b l more true f e =
     let p : m ≡ n = eqb-true m n f in
@@ -92,8 +84,9 @@ signal-member (entry m c k ∷ t) n b l e = signal-line m c k t n b l (λ f. sig
 
 number-line : (m c k : ℕ) (t : List Entry) (n b l : ℕ) → (numberOf t (sig b l) ≡ At n → List·Memᴰ (entry n b l) t) → (q : Bool) → (eqb c b && eqb k l) ≡ q → cond q (At m) (numberOf t (sig b l)) ≡ At n → List·Memᴰ (entry n b l) (entry m c k ∷ t)
 number-line m c k t n b l more true f e =
-    let p : c ≡ b = eqb-true c b (and-left (eqb c b) (eqb k l) f) in
-    let q : k ≡ l = eqb-true k l (and-right (eqb c b) (eqb k l) f) in
+    let h : T (eqb c b && eqb k l) = subst T (sym f) tt in
+    let p : c ≡ b = eqb→eq c b (left (eqb c b) (eqb k l) h) in
+    let q : k ≡ l = eqb→eq k l (right (eqb c b) (eqb k l) h) in
     let s : entry n b l ≡ entry m c k = cc in
     List·Memᴰ·head s
 number-line m c k t n b l more false f e = List·Memᴰ·tail (more e)
