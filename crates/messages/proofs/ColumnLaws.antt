@@ -1,16 +1,16 @@
 -- What a walk down the columns of a table has left. Assumes nothing.
 use mathlib.Core.Path.{_≡_, refl}
-use mathlib.Core.Bool.{true, false, _&&_}
+use mathlib.Core.Bool.{true, false}
 use mathlib.Core.List.{List, [], _∷_}
 use Prim.Native.Nat.{ℕ, _+_, _<_}
 use native.Mathlib.Numerals.{add-one}
 use native.Mathlib.Omega.{arith}
-use lib.Dec.{eqb}
 use lib.ListN.{length, getD, drop}
 use lib.Seq.{drop-cons, drop-length}
-use Rattle.messages.specs.Signals.{Entry, entry, At, None, sig, signalOf, numberOf}
-use Rattle.messages.specs.Columns.{Even, entries}
-use Rattle.messages.proofs.SignalLaws.{signal-here, signal-past, signal-end, number-here, number-past, number-end}
+use Rattle.messages.specs.Signals.{Entry, entry, At, None}
+use Rattle.messages.specs.Columns.{Even, entries, has, lineOf}
+use Rattle.messages.specs.declared.signals.Wanted.{Wanted}
+use Rattle.messages.proofs.SignalLaws.{line-here, line-past, line-end}
 
 -- the entries from line i on
 unfoldable pub from : List ℕ → List ℕ → List ℕ → ℕ → List Entry
@@ -28,24 +28,16 @@ pub from-end : (ns bs ls : List ℕ) (i : ℕ) → i ≡ length ns → from ns b
 unfolding from entries
 from-end ns bs ls i e = rw (e, drop-length)
 
--- ---- a walk that looks for a number, or for a signal, at line i
+-- ---- a walk that looks for a line, at line i
 
-module _ (ns bs ls : List ℕ) (e : Even ns bs ls) (i : ℕ) (h : i < length ns) where
-  pub signal-found : (n : ℕ) → getD ns i 0 ≡ n → signalOf (from ns bs ls i) n ≡ At (sig (getD bs i 0) (getD ls i 0))
-  signal-found n f = rw (from-line ns bs ls e i h) (signal-here _ _ _ _ n f)
+module _ (ns bs ls : List ℕ) (i : ℕ) (w : Wanted) where
+  pub line-found : Even ns bs ls → i < length ns → has (entry (getD ns i 0) (getD bs i 0) (getD ls i 0)) w ≡ true
+      → lineOf (from ns bs ls i) w ≡ At (entry (getD ns i 0) (getD bs i 0) (getD ls i 0))
+  line-found e h f = rw (from-line ns bs ls e i h) (line-here _ _ w f)
 
-  pub signal-on : (n : ℕ) → (getD ns i 0 ≡ n → ⊥) → signalOf (from ns bs ls i) n ≡ signalOf (from ns bs ls (i + 1)) n
-  signal-on n f = rw (from-line ns bs ls e i h) (signal-past _ _ _ _ n f)
+  pub line-on : Even ns bs ls → i < length ns → has (entry (getD ns i 0) (getD bs i 0) (getD ls i 0)) w ≡ false
+      → lineOf (from ns bs ls i) w ≡ lineOf (from ns bs ls (i + 1)) w
+  line-on e h f = rw (from-line ns bs ls e i h) (line-past _ _ w f)
 
-  pub number-found : (b l : ℕ) → (eqb (getD bs i 0) b && eqb (getD ls i 0) l) ≡ true → numberOf (from ns bs ls i) (sig b l) ≡ At (getD ns i 0)
-  number-found b l f = rw (from-line ns bs ls e i h) (number-here _ _ _ _ b l f)
-
-  pub number-on : (b l : ℕ) → (eqb (getD bs i 0) b && eqb (getD ls i 0) l) ≡ false → numberOf (from ns bs ls i) (sig b l) ≡ numberOf (from ns bs ls (i + 1)) (sig b l)
-  number-on b l f = rw (from-line ns bs ls e i h) (number-past _ _ _ _ b l f)
-
-module _ (ns bs ls : List ℕ) (i : ℕ) (h : i ≡ length ns) where
-  pub no-signal : (n : ℕ) → signalOf (from ns bs ls i) n ≡ None
-  no-signal n = rw (from-end ns bs ls i h) (signal-end n)
-
-  pub no-number : (b l : ℕ) → numberOf (from ns bs ls i) (sig b l) ≡ None
-  no-number b l = rw (from-end ns bs ls i h) (number-end b l)
+  pub no-line : i ≡ length ns → lineOf (from ns bs ls i) w ≡ None
+  no-line h = rw (from-end ns bs ls i h) (line-end w)

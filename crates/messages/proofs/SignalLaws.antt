@@ -1,40 +1,50 @@
 -- Reading a table in both directions, line by line; and the systems and editions that have none. Assumes nothing.
 use mathlib.Core.Path.{_≡_, refl}
-use mathlib.Core.Bool.{true, false, _&&_}
+use mathlib.Core.Bool.{Bool, true, false, cond, _&&_}
 use mathlib.Core.List.{List, [], _∷_}
 use Prim.Native.Nat.{ℕ, zero, suc, _≤_}
 use native.Mathlib.Omega.{arith}
 use lib.ListN.{List·getD-eq-default}
-use borrow.Author.Tests.{eq-eqb, ne-eqb}
 use lib.Dec.{eqb}
 use Rattle.messages.specs.Signals.{sig, Entry, entry, At, None, signalOf, numberOf, tables, tableOf}
 use Rattle.messages.specs.Signals1059.{signals1059}
+use Rattle.messages.specs.Columns.{has, lineOf, signalAt, numberAt}
+use Rattle.messages.specs.declared.signals.Wanted.{Wanted}
+use Rattle.messages.specs.declared.signals.Wanted.the-variants.{Number, Signal}
 
 -- ---- line by line
 
-pub signal-here : (m b l : ℕ) (t : List Entry) (n : ℕ) → m ≡ n → signalOf (entry m b l ∷ t) n ≡ At (sig b l)
-unfolding signalOf
-signal-here m b l t n e = simp (eq-eqb m n e)
+pub line-here : (e : Entry) (t : List Entry) (w : Wanted) → has e w ≡ true → lineOf (e ∷ t) w ≡ At e
+unfolding lineOf
+line-here e t w h = simp h
 
-pub signal-past : (m b l : ℕ) (t : List Entry) (n : ℕ) → (m ≡ n → ⊥) → signalOf (entry m b l ∷ t) n ≡ signalOf t n
-unfolding signalOf
-signal-past m b l t n e = simp (ne-eqb m n e)
+pub line-past : (e : Entry) (t : List Entry) (w : Wanted) → has e w ≡ false → lineOf (e ∷ t) w ≡ lineOf t w
+unfolding lineOf
+line-past e t w h = simp h
 
-pub number-here : (n b l : ℕ) (t : List Entry) (c m : ℕ) → (eqb b c && eqb l m) ≡ true → numberOf (entry n b l ∷ t) (sig c m) ≡ At n
-unfolding numberOf
-number-here n b l t c m e = simp e
+pub line-end : (w : Wanted) → lineOf [] w ≡ None
+unfolding lineOf
+line-end w = refl
 
-pub number-past : (n b l : ℕ) (t : List Entry) (c m : ℕ) → (eqb b c && eqb l m) ≡ false → numberOf (entry n b l ∷ t) (sig c m) ≡ numberOf t (sig c m)
-unfolding numberOf
-number-past n b l t c m e = simp e
+-- the line that has a number tells its signal
+pub signal-by-line : (t : List Entry) (n : ℕ) → signalOf t n ≡ signalAt (lineOf t (Number n))
+unfolding signalOf lineOf has
+signal-by-line [] n = refl
+signal-by-line (entry m b l ∷ t) n = go (eqb m n) (signal-by-line t n)
+  where
+    go : (q : Bool) → signalOf t n ≡ signalAt (lineOf t (Number n)) → cond q (At (sig b l)) (signalOf t n) ≡ signalAt (cond q (At (entry m b l)) (lineOf t (Number n)))
+    go true e = refl
+    go false e = e
 
-pub signal-end : (n : ℕ) → signalOf [] n ≡ None
-unfolding signalOf
-signal-end n = refl
-
-pub number-end : (c m : ℕ) → numberOf [] (sig c m) ≡ None
-unfolding numberOf
-number-end c m = refl
+-- the line that has a signal tells its number
+pub number-by-line : (t : List Entry) (c k : ℕ) → numberOf t (sig c k) ≡ numberAt (lineOf t (Signal c k))
+unfolding numberOf lineOf has
+number-by-line [] c k = refl
+number-by-line (entry n b l ∷ t) c k = go (eqb b c && eqb l k) (number-by-line t c k)
+  where
+    go : (q : Bool) → numberOf t (sig c k) ≡ numberAt (lineOf t (Signal c k)) → cond q (At n) (numberOf t (sig c k)) ≡ numberAt (cond q (At (entry n b l)) (lineOf t (Signal c k)))
+    go true e = refl
+    go false e = e
 
 -- ---- the tables
 

@@ -4,10 +4,10 @@
 ghost use mathlib.Core.Path.{_≡_};
 ghost use mathlib.Core.Bool.{_&&_};
 ghost use lib.Dec.{eqb};
-ghost use Rattle.messages.specs.Signals.{sig, tableOf, signalOf, numberOf};
+ghost use Rattle.messages.specs.Signals.{sig, entry, tableOf, signalOf, numberOf};
 ghost use Rattle.messages.specs.SignalOrder.{order, compared, byBand};
 ghost use Rattle.messages.specs.Answers.{foundSignal, foundNumber, toldOrder};
-ghost use Rattle.messages.specs.Columns.{Even, entries};
+ghost use Rattle.messages.specs.Columns.{Even, entries, has, lineOf, foundLine, signalAt};
 
 // The signal that a number stands for: its band and its letter, an ASCII byte; or none.
 pub enum SignalFound {
@@ -94,31 +94,16 @@ const NAVIC_LETTERS: [u8; 2] = *b"AA";
 pub fn signal_of(system: u32, number: u32) -> SignalFound
     ensures { λ r. ⌜ foundSignal r ≡ signalOf (tableOf system) number ⌝ }
 {
-    match system {
-        0 => signal_in(&GPS_NUMBERS, &GPS_BANDS, &GPS_LETTERS, number),
-        1 => signal_in(&GLO_NUMBERS, &GLO_BANDS, &GLO_LETTERS, number),
-        2 => signal_in(&GAL_NUMBERS, &GAL_BANDS, &GAL_LETTERS, number),
-        3 => signal_in(&SBAS_NUMBERS, &SBAS_BANDS, &SBAS_LETTERS, number),
-        4 => signal_in(&QZSS_NUMBERS, &QZSS_BANDS, &QZSS_LETTERS, number),
-        5 => signal_in(&BDS_NUMBERS, &BDS_BANDS, &BDS_LETTERS, number),
-        6 => signal_in(&NAVIC_NUMBERS, &NAVIC_BANDS, &NAVIC_LETTERS, number),
-        _ => SignalFound::None,
-    }
+    signal_at(line_of(system, Wanted::Number(number)))
 }
 
 // The number of a signal in the system's table. A band or a letter above 255 is in no table.
 pub fn number_of(system: u32, band: u32, letter: u32) -> NumberFound
     ensures { λ r. ⌜ foundNumber r ≡ numberOf (tableOf system) (sig band letter) ⌝ }
 {
-    match system {
-        0 => number_in(&GPS_NUMBERS, &GPS_BANDS, &GPS_LETTERS, band, letter),
-        1 => number_in(&GLO_NUMBERS, &GLO_BANDS, &GLO_LETTERS, band, letter),
-        2 => number_in(&GAL_NUMBERS, &GAL_BANDS, &GAL_LETTERS, band, letter),
-        3 => number_in(&SBAS_NUMBERS, &SBAS_BANDS, &SBAS_LETTERS, band, letter),
-        4 => number_in(&QZSS_NUMBERS, &QZSS_BANDS, &QZSS_LETTERS, band, letter),
-        5 => number_in(&BDS_NUMBERS, &BDS_BANDS, &BDS_LETTERS, band, letter),
-        6 => number_in(&NAVIC_NUMBERS, &NAVIC_BANDS, &NAVIC_LETTERS, band, letter),
-        _ => NumberFound::None,
+    match line_of(system, Wanted::Signal(band, letter)) {
+        Line::At(number, _, _) => NumberFound::At(number),
+        Line::None => NumberFound::None,
     }
 }
 
@@ -163,34 +148,70 @@ fn compare_numbers(m: u32, n: u32) -> Order
     Order::Greater
 }
 
-// The signal that `number` stands for in the table with these columns.
-pub(crate) fn signal_in(numbers: &[u8], bands: &[u8], letters: &[u8], number: u32) -> SignalFound
-    requires { ⌜ Even (now numbers) (now bands) (now letters) ⌝ }
-    ensures { λ r. ⌜ foundSignal r ≡ signalOf (entries (now (numbers .entry)) (now (bands .entry)) (now (letters .entry))) number ⌝ }
-{
-    let mut i: usize = 0;
-    while i < numbers.len() {
-        if wide(numbers[i]) == number {
-            return SignalFound::At(bands[i], letters[i]);
-        }
-        i += 1;
-    }
-    SignalFound::None
+// What is looked for in a table: a number; or a signal, by its band and its letter.
+pub(crate) enum Wanted {
+    Number(u32),
+    Signal(u32, u32),
 }
 
-// The number of a signal in the table with these columns.
-fn number_in(numbers: &[u8], bands: &[u8], letters: &[u8], band: u32, letter: u32) -> NumberFound
+// A line of a table: number, band and letter; or none.
+pub(crate) enum Line {
+    At(u8, u8, u8),
+    None,
+}
+
+// The signal of a line.
+pub(crate) fn signal_at(line: Line) -> SignalFound
+    ensures { λ r. ⌜ foundSignal r ≡ signalAt (foundLine line) ⌝ }
+{
+    match line {
+        Line::At(_, band, letter) => SignalFound::At(band, letter),
+        Line::None => SignalFound::None,
+    }
+}
+
+// The first line of the system's table that has what is wanted.
+fn line_of(system: u32, wanted: Wanted) -> Line
+    ensures { λ r. ⌜ foundLine r ≡ lineOf (tableOf system) wanted ⌝ }
+{
+    match system {
+        0 => line_in(&GPS_NUMBERS, &GPS_BANDS, &GPS_LETTERS, wanted),
+        1 => line_in(&GLO_NUMBERS, &GLO_BANDS, &GLO_LETTERS, wanted),
+        2 => line_in(&GAL_NUMBERS, &GAL_BANDS, &GAL_LETTERS, wanted),
+        3 => line_in(&SBAS_NUMBERS, &SBAS_BANDS, &SBAS_LETTERS, wanted),
+        4 => line_in(&QZSS_NUMBERS, &QZSS_BANDS, &QZSS_LETTERS, wanted),
+        5 => line_in(&BDS_NUMBERS, &BDS_BANDS, &BDS_LETTERS, wanted),
+        6 => line_in(&NAVIC_NUMBERS, &NAVIC_BANDS, &NAVIC_LETTERS, wanted),
+        _ => Line::None,
+    }
+}
+
+// The first line of the table with these columns that has what is wanted.
+pub(crate) fn line_in(numbers: &[u8], bands: &[u8], letters: &[u8], wanted: Wanted) -> Line
     requires { ⌜ Even (now numbers) (now bands) (now letters) ⌝ }
-    ensures { λ r. ⌜ foundNumber r ≡ numberOf (entries (now (numbers .entry)) (now (bands .entry)) (now (letters .entry))) (sig band letter) ⌝ }
+    ensures { λ r. ⌜ foundLine r ≡ lineOf (entries (now (numbers .entry)) (now (bands .entry)) (now (letters .entry))) wanted ⌝ }
 {
     let mut i: usize = 0;
     while i < numbers.len() {
-        if same_signal(bands[i], letters[i], band, letter) {
-            return NumberFound::At(numbers[i]);
+        let number = numbers[i];
+        let band = bands[i];
+        let letter = letters[i];
+        if has(number, band, letter, wanted) {
+            return Line::At(number, band, letter);
         }
         i += 1;
     }
-    NumberFound::None
+    Line::None
+}
+
+// Whether a line has what is wanted.
+fn has(number: u8, band: u8, letter: u8, wanted: Wanted) -> bool
+    ensures { λ r. ⌜ r ≡ has (entry number band letter) wanted ⌝ }
+{
+    match wanted {
+        Wanted::Number(n) => wide(number) == n,
+        Wanted::Signal(b, l) => same_signal(band, letter, b, l),
+    }
 }
 
 fn same_signal(b: u8, l: u8, band: u32, letter: u32) -> bool

@@ -5,7 +5,9 @@ ghost use Rattle.messages.specs.Signals1059.{signals1059, isSignal1059};
 ghost use Rattle.messages.specs.Answers.{foundSignal};
 ghost use Rattle.messages.specs.Columns.{maskOf, inMask};
 use crate::signals::SignalFound;
-use crate::signals::signal_in;
+use crate::signals::Wanted;
+use crate::signals::line_in;
+use crate::signals::signal_at;
 
 const NUMBERS_1: [u8; 12] = [0, 1, 2, 5, 6, 7, 8, 9, 10, 11, 14, 15];
 
@@ -21,7 +23,7 @@ pub fn signal_of_1059(edition: u32, number: u32) -> SignalFound
     ensures { λ r. ⌜ foundSignal r ≡ signalOf (signals1059 edition) number ⌝ }
 {
     match edition {
-        1 => signal_in(&NUMBERS_1, &BANDS_1, &LETTERS_1, number),
+        1 => signal_at(line_in(&NUMBERS_1, &BANDS_1, &LETTERS_1, Wanted::Number(number))),
         _ => SignalFound::None,
     }
 }

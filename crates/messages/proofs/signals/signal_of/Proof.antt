@@ -1,166 +1,19 @@
--- `messages::signals::signal_of` meets its contract: the columns of each system are its table, line by line. Assumes nothing.
+-- `messages::signals::signal_of` meets its contract: the line that has the number tells its signal. Assumes nothing.
+use mathlib.Core.Path.{_∙_, sym, ap}
 use borrow.Author.Needs.{needs}
-use Rattle.messages.specs.Signals.{tableOf, gps, glo, gal, sbas, qzss, bds, navic, signalOf}
-use Rattle.messages.specs.Columns.{entries}
-use Rattle.messages.proofs.SignalLaws.{no-table}
+use Rattle.messages.specs.Columns.{signalAt}
+use Rattle.messages.proofs.SignalLaws.{signal-by-line}
 use Rattle.messages.proofs.signals.signal_of.Statement.{statement}
 use Rattle.messages.proofs.signals.signal_of.Tie as tie
 
-slice-aggregate-signal-in : tie.Need-slice-aggregate-signal-in
-slice-aggregate-signal-in c = search needs
+line-of-requires : tie.Need-line-of-requires
+line-of-requires c κs = search needs
 
-slice-aggregate-signal-in-2 : tie.Need-slice-aggregate-signal-in-2
-slice-aggregate-signal-in-2 c = search needs
-
-slice-aggregate-signal-in-3 : tie.Need-slice-aggregate-signal-in-3
-slice-aggregate-signal-in-3 c = search needs
-
-signal-in-requires : tie.Need-signal-in-requires
-signal-in-requires c κs = search needs
-
-slice-aggregate-signal-in-4 : tie.Need-slice-aggregate-signal-in-4
-slice-aggregate-signal-in-4 c = search needs
-
-slice-aggregate-signal-in-5 : tie.Need-slice-aggregate-signal-in-5
-slice-aggregate-signal-in-5 c = search needs
-
-slice-aggregate-signal-in-6 : tie.Need-slice-aggregate-signal-in-6
-slice-aggregate-signal-in-6 c = search needs
-
-signal-in-requires-2 : tie.Need-signal-in-requires-2
-signal-in-requires-2 c κs = search needs
-
-slice-aggregate-signal-in-7 : tie.Need-slice-aggregate-signal-in-7
-slice-aggregate-signal-in-7 c = search needs
-
-slice-aggregate-signal-in-8 : tie.Need-slice-aggregate-signal-in-8
-slice-aggregate-signal-in-8 c = search needs
-
-slice-aggregate-signal-in-9 : tie.Need-slice-aggregate-signal-in-9
-slice-aggregate-signal-in-9 c = search needs
-
-signal-in-requires-3 : tie.Need-signal-in-requires-3
-signal-in-requires-3 c κs = search needs
-
-slice-aggregate-signal-in-10 : tie.Need-slice-aggregate-signal-in-10
-slice-aggregate-signal-in-10 c = search needs
-
-slice-aggregate-signal-in-11 : tie.Need-slice-aggregate-signal-in-11
-slice-aggregate-signal-in-11 c = search needs
-
-slice-aggregate-signal-in-12 : tie.Need-slice-aggregate-signal-in-12
-slice-aggregate-signal-in-12 c = search needs
-
-signal-in-requires-4 : tie.Need-signal-in-requires-4
-signal-in-requires-4 c κs = search needs
-
-slice-aggregate-signal-in-13 : tie.Need-slice-aggregate-signal-in-13
-slice-aggregate-signal-in-13 c = search needs
-
-slice-aggregate-signal-in-14 : tie.Need-slice-aggregate-signal-in-14
-slice-aggregate-signal-in-14 c = search needs
-
-slice-aggregate-signal-in-15 : tie.Need-slice-aggregate-signal-in-15
-slice-aggregate-signal-in-15 c = search needs
-
-signal-in-requires-5 : tie.Need-signal-in-requires-5
-signal-in-requires-5 c κs = search needs
-
-slice-aggregate-signal-in-16 : tie.Need-slice-aggregate-signal-in-16
-slice-aggregate-signal-in-16 c = search needs
-
-slice-aggregate-signal-in-17 : tie.Need-slice-aggregate-signal-in-17
-slice-aggregate-signal-in-17 c = search needs
-
-slice-aggregate-signal-in-18 : tie.Need-slice-aggregate-signal-in-18
-slice-aggregate-signal-in-18 c = search needs
-
-signal-in-requires-6 : tie.Need-signal-in-requires-6
-signal-in-requires-6 c κs = search needs
-
-slice-aggregate-signal-in-19 : tie.Need-slice-aggregate-signal-in-19
-slice-aggregate-signal-in-19 c = search needs
-
-slice-aggregate-signal-in-20 : tie.Need-slice-aggregate-signal-in-20
-slice-aggregate-signal-in-20 c = search needs
-
-slice-aggregate-signal-in-21 : tie.Need-slice-aggregate-signal-in-21
-slice-aggregate-signal-in-21 c = search needs
-
-signal-in-requires-7 : tie.Need-signal-in-requires-7
-signal-in-requires-7 c κs = search needs
+signal-at-requires : tie.Need-signal-at-requires
+signal-at-requires c κs = search needs
 
 returns : tie.Need-returns
-unfolding tableOf gps entries
-returns c = rw (c .before .before .before .before .match .keys1) (c .signal-in .ensures)
-
-returns-2 : tie.Need-returns-2
-unfolding tableOf glo entries
-returns-2 c = rw (c .before .before .before .before .match .keys2) (c .signal-in2 .ensures)
-
-returns-3 : tie.Need-returns-3
-unfolding tableOf gal entries
-returns-3 c = rw (c .before .before .before .before .match .keys3) (c .signal-in3 .ensures)
-
-returns-4 : tie.Need-returns-4
-unfolding tableOf sbas entries
-returns-4 c = rw (c .before .before .before .before .match .keys4) (c .signal-in4 .ensures)
-
-returns-5 : tie.Need-returns-5
-unfolding tableOf qzss entries
-returns-5 c = rw (c .before .before .before .before .match .keys5) (c .signal-in5 .ensures)
-
-returns-6 : tie.Need-returns-6
-unfolding tableOf bds entries
-returns-6 c = rw (c .before .before .before .before .match .keys6) (c .signal-in6 .ensures)
-
-returns-7 : tie.Need-returns-7
-unfolding tableOf navic entries
-returns-7 c = rw (c .before .before .before .before .match .keys7) (c .signal-in7 .ensures)
-
-returns-8 : tie.Need-returns-8
-unfolding signalOf
-returns-8 c =
-    let r = c .match .rest in
-    rw (no-table (c .before .args .system) (r .0 .0 .0 .0 .0 .0 .1) (r .0 .0 .0 .0 .0 .1) (r .0 .0 .0 .0 .1) (r .0 .0 .0 .1) (r .0 .0 .1) (r .0 .1) (r .1))
+returns c = c .signal-at .ensures ∙ ap signalAt (c .before .line-of .ensures) ∙ sym (signal-by-line _ _)
 
 pub signal-of-spec : {M : Type 1} → statement M
-signal-of-spec =
-    tie.close
-    (tie.spec
-    slice-aggregate-signal-in
-    slice-aggregate-signal-in-2
-    slice-aggregate-signal-in-3
-    signal-in-requires
-    slice-aggregate-signal-in-4
-    slice-aggregate-signal-in-5
-    slice-aggregate-signal-in-6
-    signal-in-requires-2
-    slice-aggregate-signal-in-7
-    slice-aggregate-signal-in-8
-    slice-aggregate-signal-in-9
-    signal-in-requires-3
-    slice-aggregate-signal-in-10
-    slice-aggregate-signal-in-11
-    slice-aggregate-signal-in-12
-    signal-in-requires-4
-    slice-aggregate-signal-in-13
-    slice-aggregate-signal-in-14
-    slice-aggregate-signal-in-15
-    signal-in-requires-5
-    slice-aggregate-signal-in-16
-    slice-aggregate-signal-in-17
-    slice-aggregate-signal-in-18
-    signal-in-requires-6
-    slice-aggregate-signal-in-19
-    slice-aggregate-signal-in-20
-    slice-aggregate-signal-in-21
-    signal-in-requires-7
-    returns
-    returns-2
-    returns-3
-    returns-4
-    returns-5
-    returns-6
-    returns-7
-    returns-8)
+signal-of-spec = tie.close (tie.spec line-of-requires signal-at-requires returns)

@@ -1,0 +1,76 @@
+-- `messages::signals::line_in` meets its contract. The loop's invariant: the lines from `i` on answer as the whole table.
+-- The measure is the lines that are left. Assumes nothing.
+use mathlib.Core.Path.{_≡_, _∙_, sym}
+use Prim.Native.Nat.{_≤_, _-_}
+use native.Mathlib.Omega.{arith}
+use borrow.Author.Needs.{needs}
+use lib.ListN.{length}
+use Rattle.messages.specs.Columns.{entries, lineOf}
+use Rattle.messages.proofs.ColumnLaws.{from, from-start, line-found, line-on, no-line}
+use Rattle.messages.proofs.signals.line_in.Statement.{statement}
+use Rattle.messages.proofs.signals.line_in.Tie as tie
+
+abbrev Inv-loop : tie.InvT-loop
+Inv-loop numbers bands letters wanted i₀ i =
+    (i ≤ length numbers) × (lineOf (from numbers bands letters i) wanted ≡ lineOf (entries numbers bands letters) wanted)
+
+abbrev μ-loop : tie.MeasureT-loop
+μ-loop numbers bands letters wanted i₀ i = length numbers - i
+
+loop-holds : tie.Need-loop-holds Inv-loop μ-loop
+loop-holds c = (search needs, rw from-start)
+
+shared-slice-read-number : tie.Need-shared-slice-read-number Inv-loop μ-loop
+shared-slice-read-number c = search needs
+
+shared-slice-read-band : tie.Need-shared-slice-read-band Inv-loop μ-loop
+shared-slice-read-band c = omega arith
+
+shared-slice-read-letter : tie.Need-shared-slice-read-letter Inv-loop μ-loop
+shared-slice-read-letter c = omega arith
+
+has-requires : tie.Need-has-requires Inv-loop μ-loop
+has-requires c κs = search needs
+
+returns : tie.Need-returns Inv-loop μ-loop
+returns c =
+    let a = c .before .before .before .before .before .before .before .before .before .before in
+    let l = c .before .before .before .before .before .before .loop in
+    sym (line-found (a .args .numbers .now) (a .args .bands .now) (a .args .letters .now) (l .i) (a .args .wanted) (a .pre) (omega arith) (sym (c .before .has .ensures) ∙ c .if1 .taken)) ∙ l .inv .1
+
+add-i : tie.Need-add-i Inv-loop μ-loop
+add-i c = search needs
+
+loop-less : tie.Need-loop-less Inv-loop μ-loop
+loop-less c = search needs
+
+loop-again : tie.Need-loop-again Inv-loop μ-loop
+loop-again c =
+    let a = c .before .before .before .before .before .before .before .before .before .before in
+    let l = c .before .before .before .before .before .before .loop in (
+      omega arith,
+      sym (line-on (a .args .numbers .now) (a .args .bands .now) (a .args .letters .now) (l .i) (a .args .wanted) (a .pre) (omega arith) (sym (c .before .has .ensures) ∙ c .if1 .left)) ∙ l .inv .1,
+    )
+
+returns-2 : tie.Need-returns-2 Inv-loop μ-loop
+returns-2 c =
+    let a = c .before .before .before .before .before in
+    let l = c .before .loop in
+    sym (no-line (a .args .numbers .now) (a .args .bands .now) (a .args .letters .now) (l .i) (a .args .wanted) (omega arith)) ∙ l .inv .1
+
+pub line-in-spec : {M : Type 1} → statement M
+line-in-spec =
+    tie.close
+    (tie.spec
+    Inv-loop
+    μ-loop
+    loop-holds
+    shared-slice-read-number
+    shared-slice-read-band
+    shared-slice-read-letter
+    has-requires
+    returns
+    add-i
+    loop-less
+    loop-again
+    returns-2)
