@@ -8,9 +8,6 @@ use Rattle.messages.proofs.LeftLaws.{room-test}
 use Rattle.messages.proofs.put.has_room.Statement.{statement}
 use Rattle.messages.proofs.put.has_room.Tie as tie
 
-mul-all : tie.Need-mul-all
-mul-all c = search needs
-
 returns : tie.Need-returns
 returns c =
     let a = c .before .args in
@@ -20,4 +17,4 @@ returns-2 : tie.Need-returns-2
 returns-2 c = room-test _ _ _ (c .if1 .left)
 
 pub has-room-spec : {M : Type 1} → statement M
-has-room-spec = tie.close (tie.spec mul-all returns returns-2)
+has-room-spec = tie.close (tie.spec (λ c. search needs) returns returns-2)

@@ -10,24 +10,12 @@ use Rattle.messages.proofs.put.twos.Tie as tie
 cast-write-twos : tie.Need-cast-write-twos
 cast-write-twos c = widen (c .before .before .args .value) (c .before .before .fits .value) .0
 
-write-twos-requires : tie.Need-write-twos-requires
-write-twos-requires c κs = search needs
-
-enum-known-next : tie.Need-enum-known-next
-enum-known-next c = search needs
-
-same-length : tie.Need-same-length
-same-length c = search needs
-
 returns : tie.Need-returns
 returns c =
     let s = c .before .before .before .before .before .before in
     let w = c .before .before .before .write-twos in
     let z = s .args .value in
     did-else _ _ _ _ _ (s .pre .0) (s .pre .1) (s .pre .2) (s .pre .3) (w .result) _ (w .ensures ∙ ap (writeTwos _ _ _) (widen z (s .fits .value) .1)) _ (c .match .keys2)
-
-same-length-2 : tie.Need-same-length-2
-same-length-2 c = search needs
 
 returns-2 : tie.Need-returns-2
 returns-2 c =
@@ -41,9 +29,9 @@ twos-spec =
     tie.close
     (tie.spec
     cast-write-twos
-    write-twos-requires
-    enum-known-next
-    same-length
+    (λ c κs. search needs)
+    (λ c. search needs)
+    (λ c. search needs)
     returns
-    same-length-2
+    (λ c. search needs)
     returns-2)

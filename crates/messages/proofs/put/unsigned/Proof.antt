@@ -5,23 +5,11 @@ use Rattle.messages.proofs.PutCode.{did-one, did-else}
 use Rattle.messages.proofs.put.unsigned.Statement.{statement}
 use Rattle.messages.proofs.put.unsigned.Tie as tie
 
-write-unsigned-requires : tie.Need-write-unsigned-requires
-write-unsigned-requires c κs = search needs
-
-enum-known-next : tie.Need-enum-known-next
-enum-known-next c = search needs
-
-same-length : tie.Need-same-length
-same-length c = search needs
-
 returns : tie.Need-returns
 returns c =
     let s = c .before .before .before .before .before .before in
     let w = c .before .before .before .write-unsigned in
     did-else _ _ _ _ _ (s .pre .0) (s .pre .1) (s .pre .2) (lt-ltb _ _ (s .pre .3)) (w .result) _ (w .ensures) _ (c .match .keys2)
-
-same-length-2 : tie.Need-same-length-2
-same-length-2 c = search needs
 
 returns-2 : tie.Need-returns-2
 returns-2 c =
@@ -32,4 +20,4 @@ returns-2 c =
 pub unsigned-spec : {M : Type 1} → statement M
 unsigned-spec =
     tie.close
-    (tie.spec write-unsigned-requires enum-known-next same-length returns same-length-2 returns-2)
+    (tie.spec (λ c κs. search needs) (λ c. search needs) (λ c. search needs) returns (λ c. search needs) returns-2)

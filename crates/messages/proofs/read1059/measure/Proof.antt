@@ -23,24 +23,12 @@ abbrev μ-loop : tie.MeasureT-loop
 loop-holds : tie.Need-loop-holds Inv-loop μ-loop
 loop-holds c = (omega arith, omega arith, ap (counts 0) (many-all _ _ _))
 
-measure-satellite-requires : tie.Need-measure-satellite-requires Inv-loop μ-loop
-measure-satellite-requires c κs = search needs
-
-enum-known-one : tie.Need-enum-known-one Inv-loop μ-loop
-enum-known-one c = search needs
-
 returns : tie.Need-returns Inv-loop μ-loop
 returns c =
     let l = c .before .before .before .loop in
     let r = read-refused (c .before .measure-satellite .result) (c .match .keys2) in
     r .is
     ∙ sym (l .inv .2 ∙ many-counts-stop _ _ _ _ (omega arith) (l .i) (sym (r .is) ∙ c .before .measure-satellite .ensures))
-
-add-k : tie.Need-add-k Inv-loop μ-loop
-add-k c = search needs
-
-loop-less : tie.Need-loop-less Inv-loop μ-loop
-loop-less c = search needs
 
 loop-again : tie.Need-loop-again Inv-loop μ-loop
 loop-again c =
@@ -60,10 +48,10 @@ measure-spec =
     Inv-loop
     μ-loop
     loop-holds
-    measure-satellite-requires
-    enum-known-one
+    (λ c κs. search needs)
+    (λ c. search needs)
     returns
-    add-k
-    loop-less
+    (λ c. search needs)
+    (λ c. search needs)
     loop-again
     returns-2)

@@ -10,21 +10,9 @@ use borrow.Author.Needs.{needs}
 use Rattle.messages.proofs.read1059.measure_satellite.Statement.{statement}
 use Rattle.messages.proofs.read1059.measure_satellite.Tie as tie
 
-read-unsigned-requires : tie.Need-read-unsigned-requires
-read-unsigned-requires c κs = search needs
-
-enum-known-at : tie.Need-enum-known-at
-enum-known-at c = search needs
-
 returns : tie.Need-returns
 returns c =
     counts-short _ _ (satellite-cut _ _ (unsigned-cut _ _ 6 (omega arith) (omega arith) (omega arith) (c .before .read-unsigned .result) (c .before .read-unsigned .ensures) (c .match .keys2)))
-
-read-unsigned-requires-2 : tie.Need-read-unsigned-requires-2
-read-unsigned-requires-2 c κs = search needs
-
-enum-known-n : tie.Need-enum-known-n
-enum-known-n c = search needs
 
 returns-2 : tie.Need-returns-2
 returns-2 c =
@@ -49,11 +37,11 @@ pub measure-satellite-spec : {M : Type 1} → statement M
 measure-satellite-spec =
     tie.close
     (tie.spec
-    read-unsigned-requires
-    enum-known-at
+    (λ c κs. search needs)
+    (λ c. search needs)
     returns
-    read-unsigned-requires-2
-    enum-known-n
+    (λ c κs. search needs)
+    (λ c. search needs)
     returns-2
     measure-biases-requires
     returns-3)

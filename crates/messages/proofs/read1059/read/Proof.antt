@@ -21,12 +21,6 @@ returns-2 c = uneven _ _ _ _ _ (omega arith) (c .if2 .taken)
 returns-3 : tie.Need-returns-3
 returns-3 c = uneven-2 _ _ _ _ _ (omega arith) (c .before .if2 .left) (c .if3 .taken)
 
-read-unsigned-requires : tie.Need-read-unsigned-requires
-read-unsigned-requires c κs = search needs
-
-enum-known-n : tie.Need-enum-known-n
-enum-known-n c = search needs
-
 returns-4 : tie.Need-returns-4
 returns-4 c =
     let r = c .before .read-unsigned in
@@ -37,9 +31,6 @@ measure-requires : tie.Need-measure-requires
 measure-requires c κs =
     let t = value-within _ _ 6 (sym (c .before .before .before .read-unsigned .ensures) ∙ ap toldUnsigned (c .before .n .given .1)) in
     (omega arith, omega arith)
-
-enum-known-extent : tie.Need-enum-known-extent
-enum-known-extent c = search needs
 
 returns-5 : tie.Need-returns-5
 returns-5 c =
@@ -58,15 +49,6 @@ store-requires c κs =
     let e = ap toldRead (sym (c .before .before .before .before .before .extent .given .1)) ∙ c .before .before .before .before .before .before .before .measure .ensures in
     record { few = omega arith; placed = has-room _ _ e (omega arith); signals = omega arith; biases = omega arith }
 
-same-length : tie.Need-same-length
-same-length c = search needs
-
-same-length-2 : tie.Need-same-length-2
-same-length-2 c = search needs
-
-same-length-3 : tie.Need-same-length-3
-same-length-3 c = search needs
-
 returns-7 : tie.Need-returns-7
 returns-7 c =
     let b = block-read _ _ (sym (c .before .before .before .before .before .before .before .before .before .before .before .before .before .before .before .before .before .read-unsigned .ensures) ∙ ap toldUnsigned (c .before .before .before .before .before .before .before .before .before .before .before .before .before .before .before .n .given .1)) in
@@ -80,15 +62,15 @@ read-spec =
     returns
     returns-2
     returns-3
-    read-unsigned-requires
-    enum-known-n
+    (λ c κs. search needs)
+    (λ c. search needs)
     returns-4
     measure-requires
-    enum-known-extent
+    (λ c. search needs)
     returns-5
     returns-6
     store-requires
-    same-length
-    same-length-2
-    same-length-3
+    (λ c. search needs)
+    (λ c. search needs)
+    (λ c. search needs)
     returns-7)

@@ -12,22 +12,10 @@ use borrow.Author.Needs.{needs}
 use Rattle.messages.proofs.read1059.store_bias.Statement.{statement}
 use Rattle.messages.proofs.read1059.store_bias.Tie as tie
 
-read-unsigned-requires : tie.Need-read-unsigned-requires
-read-unsigned-requires c κs = search needs
-
-enum-known-signal : tie.Need-enum-known-signal
-enum-known-signal c = search needs
-
 returns : tie.Need-returns
 returns c =
     let few = c .before .before .before .before .before .pre .few in
     stored-short put1059 (bias-cut _ _ _ (unsigned-cut _ _ 5 few (omega arith) (omega arith) (c .before .read-unsigned .result) (c .before .read-unsigned .ensures) (c .match .keys2))) (put1059-none _ _)
-
-read-twos-requires : tie.Need-read-twos-requires
-read-twos-requires c κs = search needs
-
-enum-known-bias : tie.Need-enum-known-bias
-enum-known-bias c = search needs
 
 returns-2 : tie.Need-returns-2
 returns-2 c =
@@ -62,9 +50,6 @@ cast-biases : tie.Need-cast-biases
 cast-biases c =
     bias-narrow _ _ 14 (omega arith) (sym (c .before .before .before .read-twos .ensures) ∙ ap toldSigned (c .before .bias .given .1)) .0
 
-mul-t18 : tie.Need-mul-t18
-mul-t18 c = search needs
-
 slice-set-from-biases : tie.Need-slice-set-from-biases
 slice-set-from-biases c =
     let b = c .before .before .before .before .before in
@@ -72,18 +57,6 @@ slice-set-from-biases c =
     let f = sym (c .before .before .before .read-twos .ensures) ∙ ap toldSigned (c .before .bias .given .1) in
     let h = placed-one (b .before .before .before .before .before .before .pre .placed) (bias-read _ _ _ e f) in
     omega arith
-
-add-t18 : tie.Need-add-t18
-add-t18 c = search needs
-
-same-length : tie.Need-same-length
-same-length c = search needs
-
-same-length-2 : tie.Need-same-length-2
-same-length-2 c = search needs
-
-same-length-3 : tie.Need-same-length-3
-same-length-3 c = search needs
 
 returns-3 : tie.Need-returns-3
 returns-3 c =
@@ -96,20 +69,20 @@ pub store-bias-spec : {M : Type 1} → statement M
 store-bias-spec =
     tie.close
     (tie.spec
-    read-unsigned-requires
-    enum-known-signal
+    (λ c κs. search needs)
+    (λ c. search needs)
     returns
-    read-twos-requires
-    enum-known-bias
+    (λ c κs. search needs)
+    (λ c. search needs)
     returns-2
     slice-write-satellites
     cast-signals
     slice-write-signals
     cast-biases
-    mul-t18
+    (λ c. search needs)
     slice-set-from-biases
-    add-t18
-    same-length
-    same-length-2
-    same-length-3
+    (λ c. search needs)
+    (λ c. search needs)
+    (λ c. search needs)
+    (λ c. search needs)
     returns-3)

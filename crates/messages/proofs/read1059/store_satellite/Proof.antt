@@ -11,23 +11,11 @@ use borrow.Author.Needs.{needs}
 use Rattle.messages.proofs.read1059.store_satellite.Statement.{statement}
 use Rattle.messages.proofs.read1059.store_satellite.Tie as tie
 
-read-unsigned-requires : tie.Need-read-unsigned-requires
-read-unsigned-requires c κs = search needs
-
-enum-known-satellite : tie.Need-enum-known-satellite
-enum-known-satellite c = search needs
-
 returns : tie.Need-returns
 returns c =
     let few = c .before .before .before .before .before .pre .few in
     let r = c .before .read-unsigned in
     stored-short put1059 (satellite-cut _ _ (unsigned-cut _ _ 6 few (omega arith) (omega arith) (r .result) (r .ensures) (c .match .keys2))) (put1059-none _ _)
-
-read-unsigned-requires-2 : tie.Need-read-unsigned-requires-2
-read-unsigned-requires-2 c κs = search needs
-
-enum-known-n : tie.Need-enum-known-n
-enum-known-n c = search needs
 
 returns-2 : tie.Need-returns-2
 returns-2 c =
@@ -48,15 +36,6 @@ store-biases-requires c κs =
     let f = sym (c .before .before .before .before .before .before .read-unsigned2 .ensures) ∙ ap toldUnsigned (c .before .before .before .before .n .given .1) in
     record { few = r .few; placed = placed-as (satellite-read _ _ e f) (r .placed); signals = r .signals; biases = r .biases }
 
-same-length : tie.Need-same-length
-same-length c = search needs
-
-same-length-2 : tie.Need-same-length-2
-same-length-2 c = search needs
-
-same-length-3 : tie.Need-same-length-3
-same-length-3 c = search needs
-
 returns-3 : tie.Need-returns-3
 returns-3 c =
     let e = sym (c .before .before .before .before .before .before .before .before .before .before .before .before .before .before .before .before .read-unsigned .ensures) ∙ ap toldUnsigned (c .before .before .before .before .before .before .before .before .before .before .before .before .before .before .satellite .given .1) in
@@ -67,15 +46,15 @@ pub store-satellite-spec : {M : Type 1} → statement M
 store-satellite-spec =
     tie.close
     (tie.spec
-    read-unsigned-requires
-    enum-known-satellite
+    (λ c κs. search needs)
+    (λ c. search needs)
     returns
-    read-unsigned-requires-2
-    enum-known-n
+    (λ c κs. search needs)
+    (λ c. search needs)
     returns-2
     cast-store-biases
     store-biases-requires
-    same-length
-    same-length-2
-    same-length-3
+    (λ c. search needs)
+    (λ c. search needs)
+    (λ c. search needs)
     returns-3)

@@ -19,12 +19,6 @@ returns c = too-long _ _ _ _ (omega arith)
 returns-2 : tie.Need-returns-2
 returns-2 c = uneven _ _ _ _ (omega arith) (c .if2 .taken)
 
-read-unsigned-requires : tie.Need-read-unsigned-requires
-read-unsigned-requires c κs = search needs
-
-enum-known-mask : tie.Need-enum-known-mask
-enum-known-mask c = search needs
-
 returns-3 : tie.Need-returns-3
 returns-3 c =
     let r = c .before .read-unsigned in
@@ -40,9 +34,6 @@ measure-requires : tie.Need-measure-requires
 measure-requires c κs =
     let t = value-within _ _ 4 (sym (c .before .before .before .before .read-unsigned .ensures) ∙ ap toldUnsigned (c .before .before .mask .given .1)) in
     (omega arith, omega arith, omega arith)
-
-enum-known-extent : tie.Need-enum-known-extent
-enum-known-extent c = search needs
 
 returns-4 : tie.Need-returns-4
 returns-4 c =
@@ -61,12 +52,6 @@ store-requires c κs =
     let e = ap toldRead (sym (c .before .before .before .before .before .extent .given .1)) ∙ c .before .before .before .before .before .before .before .measure .ensures (masked maskSignals _) (sym (c .before .before .before .before .before .before .before .before .signals-in .ensures .0)) in
     (refl, record { few = omega arith; placed = has-room _ _ e (omega arith); biases = omega arith })
 
-same-length : tie.Need-same-length
-same-length c = search needs
-
-same-length-2 : tie.Need-same-length-2
-same-length-2 c = search needs
-
 returns-6 : tie.Need-returns-6
 returns-6 c =
     let b = block-read _ _ (sym (c .before .before .before .before .before .before .before .before .before .before .before .before .before .before .before .before .read-unsigned .ensures) ∙ ap toldUnsigned (c .before .before .before .before .before .before .before .before .before .before .before .before .before .before .mask .given .1)) in
@@ -79,15 +64,15 @@ read-spec =
     (tie.spec
     returns
     returns-2
-    read-unsigned-requires
-    enum-known-mask
+    (λ c κs. search needs)
+    (λ c. search needs)
     returns-3
     signals-in-requires
     measure-requires
-    enum-known-extent
+    (λ c. search needs)
     returns-4
     returns-5
     store-requires
-    same-length
-    same-length-2
+    (λ c. search needs)
+    (λ c. search needs)
     returns-6)

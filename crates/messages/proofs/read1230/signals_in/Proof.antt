@@ -5,17 +5,8 @@ use borrow.Author.Needs.{needs}
 use Rattle.messages.proofs.read1230.signals_in.Statement.{statement}
 use Rattle.messages.proofs.read1230.signals_in.Tie as tie
 
-add-result : tie.Need-add-result
-add-result c = search needs
-
-add-result-2 : tie.Need-add-result-2
-add-result-2 c = search needs
-
-add-result-3 : tie.Need-add-result-3
-add-result-3 c = search needs
-
 returns : tie.Need-returns
 returns c = (masked-length _, omega arith)
 
 pub signals-in-spec : {M : Type 1} → statement M
-signals-in-spec = tie.close (tie.spec add-result add-result-2 add-result-3 returns)
+signals-in-spec = tie.close (tie.spec (λ c. search needs) (λ c. search needs) (λ c. search needs) returns)

@@ -28,25 +28,10 @@ loop-holds c =
     let r = c .before .before .pre .1 in
     (omega arith, refl, r .biases, begun put1230 (r .placed))
 
-sub-if1 : tie.Need-sub-if1 Inv-loop μ-loop
-sub-if1 c = search needs
-
-shr-if1 : tie.Need-shr-if1 Inv-loop μ-loop
-shr-if1 c = search needs
-
-add-k : tie.Need-add-k Inv-loop μ-loop
-add-k c = search needs
-
-loop-less : tie.Need-loop-less Inv-loop μ-loop
-loop-less c = search needs
-
 loop-again : tie.Need-loop-again Inv-loop μ-loop
 loop-again c =
     let l = c .before .before .loop in
     (omega arith, l .inv .1, l .inv .2, left-as put1230 (l .inv .3) (masked-lacks _ (l .k) _ (l .at) (omega arith) (c .if1 .taken)))
-
-element-copy-out-store-bias : tie.Need-element-copy-out-store-bias Inv-loop μ-loop
-element-copy-out-store-bias c = search needs
 
 store-bias-requires : tie.Need-store-bias-requires Inv-loop μ-loop
 store-bias-requires c κs =
@@ -58,27 +43,12 @@ store-bias-requires c κs =
       biases = omega arith;
     }
 
-enum-known-one : tie.Need-enum-known-one Inv-loop μ-loop
-enum-known-one c = search needs
-
-same-length : tie.Need-same-length Inv-loop μ-loop
-same-length c = search needs
-
-same-length-2 : tie.Need-same-length-2 Inv-loop μ-loop
-same-length-2 c = search needs
-
 returns : tie.Need-returns Inv-loop μ-loop
 returns c =
     let l = c .before .before .before .before .before .before .before .before .before .before .loop in
     let s = c .before .before .before .before .store-bias in
     let r = read-refused (s .result) (c .match .keys2) in
     absurd (signal-read _ _ (l .k) _ (l .at) (c .before .before .before .before .before .before .before .before .before .before .before .before .before .pre .0) (omega arith) (c .before .before .before .before .before .before .before .before .if1 .left) (l .i) (l .inv .3) (sym (r .is) ∙ s .ensures .says))
-
-add-k-2 : tie.Need-add-k-2 Inv-loop μ-loop
-add-k-2 c = search needs
-
-loop-less-2 : tie.Need-loop-less-2 Inv-loop μ-loop
-loop-less-2 c = search needs
 
 loop-again-2 : tie.Need-loop-again-2 Inv-loop μ-loop
 loop-again-2 c =
@@ -90,12 +60,6 @@ loop-again-2 c =
       signal-stored _ _ (l .k) _ (l .at) (c .before .before .before .before .before .before .before .before .before .before .before .before .before .before .before .pre .0) (omega arith) (c .before .before .before .before .before .before .before .before .before .before .if1 .left) (l .i) (l .inv .3)
           (stored-answer put1230 (ap toldRead (c .before .one .given .1)) (s .ensures)),
     )
-
-same-length-3 : tie.Need-same-length-3 Inv-loop μ-loop
-same-length-3 c = search needs
-
-same-length-4 : tie.Need-same-length-4 Inv-loop μ-loop
-same-length-4 c = search needs
 
 returns-2 : tie.Need-returns-2 Inv-loop μ-loop
 returns-2 c =
@@ -109,20 +73,20 @@ store-spec =
     Inv-loop
     μ-loop
     loop-holds
-    sub-if1
-    shr-if1
-    add-k
-    loop-less
+    (λ c. search needs)
+    (λ c. search needs)
+    (λ c. search needs)
+    (λ c. search needs)
     loop-again
-    element-copy-out-store-bias
+    (λ c. search needs)
     store-bias-requires
-    enum-known-one
-    same-length
-    same-length-2
+    (λ c. search needs)
+    (λ c. search needs)
+    (λ c. search needs)
     returns
-    add-k-2
-    loop-less-2
+    (λ c. search needs)
+    (λ c. search needs)
     loop-again-2
-    same-length-3
-    same-length-4
+    (λ c. search needs)
+    (λ c. search needs)
     returns-2)

@@ -12,12 +12,6 @@ use borrow.Author.Needs.{needs}
 use Rattle.messages.proofs.read1230.store_bias.Statement.{statement}
 use Rattle.messages.proofs.read1230.store_bias.Tie as tie
 
-read-twos-requires : tie.Need-read-twos-requires
-read-twos-requires c κs = search needs
-
-enum-known-bias : tie.Need-enum-known-bias
-enum-known-bias c = search needs
-
 returns : tie.Need-returns
 returns c =
     let r = c .before .read-twos in
@@ -34,23 +28,11 @@ cast-biases c =
     let e = sym (c .before .before .before .read-twos .ensures) ∙ ap toldSigned (c .before .bias .given .1) in
     bias-narrow _ _ 16 (omega arith) e .0
 
-mul-t12 : tie.Need-mul-t12
-mul-t12 c = search needs
-
 slice-set-from-biases : tie.Need-slice-set-from-biases
 slice-set-from-biases c =
     let e = sym (c .before .before .before .read-twos .ensures) ∙ ap toldSigned (c .before .bias .given .1) in
     let h = placed-one (c .before .before .before .before .before .before .pre .placed) (bias-read _ _ _ e) in
     omega arith
-
-add-t12 : tie.Need-add-t12
-add-t12 c = search needs
-
-same-length : tie.Need-same-length
-same-length c = search needs
-
-same-length-2 : tie.Need-same-length-2
-same-length-2 c = search needs
 
 returns-2 : tie.Need-returns-2
 returns-2 c =
@@ -61,14 +43,14 @@ pub store-bias-spec : {M : Type 1} → statement M
 store-bias-spec =
     tie.close
     (tie.spec
-    read-twos-requires
-    enum-known-bias
+    (λ c κs. search needs)
+    (λ c. search needs)
     returns
     slice-write-signals
     cast-biases
-    mul-t12
+    (λ c. search needs)
     slice-set-from-biases
-    add-t12
-    same-length
-    same-length-2
+    (λ c. search needs)
+    (λ c. search needs)
+    (λ c. search needs)
     returns-2)

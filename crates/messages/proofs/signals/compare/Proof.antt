@@ -7,41 +7,8 @@ use borrow.Author.Needs.{needs}
 use Rattle.messages.proofs.signals.compare.Statement.{statement}
 use Rattle.messages.proofs.signals.compare.Tie as tie
 
-number-of-requires : tie.Need-number-of-requires
-number-of-requires c κs = search needs
-
-number-of-requires-2 : tie.Need-number-of-requires-2
-number-of-requires-2 c κs = search needs
-
-enum-known-a : tie.Need-enum-known-a
-enum-known-a c = search needs
-
-enum-known-b : tie.Need-enum-known-b
-enum-known-b c = search needs
-
-cast-compare-numbers : tie.Need-cast-compare-numbers
-cast-compare-numbers c = search needs
-
-cast-compare-numbers-2 : tie.Need-cast-compare-numbers-2
-cast-compare-numbers-2 c = search needs
-
-compare-numbers-requires : tie.Need-compare-numbers-requires
-compare-numbers-requires c κs = search needs
-
 enum-told : tie.Need-enum-told
 enum-told c = search needs
-
-enum-told-2 : tie.Need-enum-told-2
-enum-told-2 c = search needs
-
-enum-told-3 : tie.Need-enum-told-3
-enum-told-3 c = search needs
-
-enum-told-4 : tie.Need-enum-told-4
-enum-told-4 c = search needs
-
-compare-bands-requires : tie.Need-compare-bands-requires
-compare-bands-requires c κs = search needs
 
 returns : tie.Need-returns
 returns c =
@@ -81,18 +48,18 @@ pub compare-spec : {M : Type 1} → statement M
 compare-spec =
     tie.close
     (tie.spec
-    number-of-requires
-    number-of-requires-2
-    enum-known-a
-    enum-known-b
-    cast-compare-numbers
-    cast-compare-numbers-2
-    compare-numbers-requires
+    (λ c κs. search needs)
+    (λ c κs. search needs)
+    (λ c. search needs)
+    (λ c. search needs)
+    (λ c. search needs)
+    (λ c. search needs)
+    (λ c κs. search needs)
     enum-told
-    enum-told-2
-    enum-told-3
-    enum-told-4
-    compare-bands-requires
+    (λ c. search needs)
+    (λ c. search needs)
+    (λ c. search needs)
+    (λ c κs. search needs)
     returns
     returns-2
     returns-3

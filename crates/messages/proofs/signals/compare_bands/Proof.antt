@@ -5,12 +5,6 @@ use Rattle.messages.proofs.OrderLaws.{same-band, other-band}
 use Rattle.messages.proofs.signals.compare_bands.Statement.{statement}
 use Rattle.messages.proofs.signals.compare_bands.Tie as tie
 
-compare-numbers-requires : tie.Need-compare-numbers-requires
-compare-numbers-requires c κs = search needs
-
-compare-numbers-requires-2 : tie.Need-compare-numbers-requires-2
-compare-numbers-requires-2 c κs = search needs
-
 returns : tie.Need-returns
 returns c = c .compare-numbers .ensures ∙ sym (same-band _ _ _ _ (c .before .if1 .taken))
 
@@ -19,4 +13,4 @@ returns-2 c = c .compare-numbers2 .ensures ∙ sym (other-band _ _ _ _ (c .befor
 
 pub compare-bands-spec : {M : Type 1} → statement M
 compare-bands-spec =
-    tie.close (tie.spec compare-numbers-requires compare-numbers-requires-2 returns returns-2)
+    tie.close (tie.spec (λ c κs. search needs) (λ c κs. search needs) returns returns-2)

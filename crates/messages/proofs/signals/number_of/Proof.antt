@@ -7,12 +7,6 @@ use Rattle.messages.proofs.SignalLaws.{number-by-line}
 use Rattle.messages.proofs.signals.number_of.Statement.{statement}
 use Rattle.messages.proofs.signals.number_of.Tie as tie
 
-line-of-requires : tie.Need-line-of-requires
-line-of-requires c κs = search needs
-
-enum-known-number : tie.Need-enum-known-number
-enum-known-number c = search needs
-
 enum-told : tie.Need-enum-told
 enum-told c = search needs
 
@@ -29,4 +23,4 @@ returns-2 c =
     ∙ sym (number-by-line _ _ _)
 
 pub number-of-spec : {M : Type 1} → statement M
-number-of-spec = tie.close (tie.spec line-of-requires enum-known-number enum-told returns returns-2)
+number-of-spec = tie.close (tie.spec (λ c κs. search needs) (λ c. search needs) enum-told returns returns-2)

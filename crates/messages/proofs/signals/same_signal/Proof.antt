@@ -5,12 +5,6 @@ use borrow.Author.Tests.{eq-eqb, ne-eqb}
 use Rattle.messages.proofs.signals.same_signal.Statement.{statement}
 use Rattle.messages.proofs.signals.same_signal.Tie as tie
 
-wide-requires : tie.Need-wide-requires
-wide-requires c κs = search needs
-
-wide-requires-2 : tie.Need-wide-requires-2
-wide-requires-2 c κs = search needs
-
 returns : tie.Need-returns
 returns c =
     let a = c .before .before .before .args in
@@ -22,4 +16,4 @@ returns-2 c =
     rw (ne-eqb (a .b) (a .band) (λ e. c .if1 .left (c .before .wide .ensures ∙ e)))
 
 pub same-signal-spec : {M : Type 1} → statement M
-same-signal-spec = tie.close (tie.spec wide-requires wide-requires-2 returns returns-2)
+same-signal-spec = tie.close (tie.spec (λ c κs. search needs) (λ c κs. search needs) returns returns-2)

@@ -6,17 +6,8 @@ use Rattle.messages.specs.declared.signals.Line.{Line}
 use Rattle.messages.proofs.signals.signal_at.Statement.{statement}
 use Rattle.messages.proofs.signals.signal_at.Tie as tie
 
-enum-known-line : tie.Need-enum-known-line
-enum-known-line c = search needs
-
-enum-told : tie.Need-enum-told
-enum-told c = search needs
-
 returns : tie.Need-returns
 returns c = sym (ap (λ (x : Line). signalAt (foundLine x)) (c .before .line .given .1))
 
-returns-2 : tie.Need-returns-2
-returns-2 c = search needs
-
 pub signal-at-spec : {M : Type 1} → statement M
-signal-at-spec = tie.close (tie.spec enum-known-line enum-told returns returns-2)
+signal-at-spec = tie.close (tie.spec (λ c. search needs) (λ c. search needs) returns (λ c. search needs))

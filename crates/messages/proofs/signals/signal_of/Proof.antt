@@ -6,14 +6,8 @@ use Rattle.messages.proofs.SignalLaws.{signal-by-line}
 use Rattle.messages.proofs.signals.signal_of.Statement.{statement}
 use Rattle.messages.proofs.signals.signal_of.Tie as tie
 
-line-of-requires : tie.Need-line-of-requires
-line-of-requires c κs = search needs
-
-signal-at-requires : tie.Need-signal-at-requires
-signal-at-requires c κs = search needs
-
 returns : tie.Need-returns
 returns c = c .signal-at .ensures ∙ ap signalAt (c .before .line-of .ensures) ∙ sym (signal-by-line _ _)
 
 pub signal-of-spec : {M : Type 1} → statement M
-signal-of-spec = tie.close (tie.spec line-of-requires signal-at-requires returns)
+signal-of-spec = tie.close (tie.spec (λ c κs. search needs) (λ c κs. search needs) returns)

@@ -10,12 +10,9 @@ returns : tie.Need-returns
 unfolding inMask
 returns c = rw (le-ltb (c .before .args .number) 32 (omega arith))
 
-shr-result : tie.Need-shr-result
-shr-result c = search needs
-
 returns-2 : tie.Need-returns-2
 unfolding inMask
 returns-2 c = rw (lt-ltb (c .before .args .number) 32 (omega arith))
 
 pub in-mask-spec : {M : Type 1} → statement M
-in-mask-spec = tie.close (tie.spec returns shr-result returns-2)
+in-mask-spec = tie.close (tie.spec returns (λ c. search needs) returns-2)

@@ -4,16 +4,10 @@ use Rattle.messages.proofs.MaskLaws.{mask-tells}
 use Rattle.messages.proofs.signals1059.is_signal_1059.Statement.{statement}
 use Rattle.messages.proofs.signals1059.is_signal_1059.Tie as tie
 
-mask-1059-requires : tie.Need-mask-1059-requires
-mask-1059-requires c κs = search needs
-
-in-mask-requires : tie.Need-in-mask-requires
-in-mask-requires c κs = search needs
-
 returns : tie.Need-returns
 returns c =
     let a = c .before .before .args in
     rw (c .in-mask .ensures, c .before .mask-1059 .ensures) (mask-tells (a .edition) (a .number))
 
 pub is-signal-1059-spec : {M : Type 1} → statement M
-is-signal-1059-spec = tie.close (tie.spec mask-1059-requires in-mask-requires returns)
+is-signal-1059-spec = tie.close (tie.spec (λ c κs. search needs) (λ c κs. search needs) returns)

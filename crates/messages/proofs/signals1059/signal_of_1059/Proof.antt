@@ -8,21 +8,6 @@ use Rattle.messages.proofs.SignalLaws.{no-edition, signal-by-line}
 use Rattle.messages.proofs.signals1059.signal_of_1059.Statement.{statement}
 use Rattle.messages.proofs.signals1059.signal_of_1059.Tie as tie
 
-slice-aggregate-line-in : tie.Need-slice-aggregate-line-in
-slice-aggregate-line-in c = search needs
-
-slice-aggregate-line-in-2 : tie.Need-slice-aggregate-line-in-2
-slice-aggregate-line-in-2 c = search needs
-
-slice-aggregate-line-in-3 : tie.Need-slice-aggregate-line-in-3
-slice-aggregate-line-in-3 c = search needs
-
-line-in-requires : tie.Need-line-in-requires
-line-in-requires c κs = search needs
-
-signal-at-requires : tie.Need-signal-at-requires
-signal-at-requires c κs = search needs
-
 returns : tie.Need-returns
 unfolding signals1059 edition1 entries
 returns c =
@@ -39,10 +24,10 @@ pub signal-of-1059-spec : {M : Type 1} → statement M
 signal-of-1059-spec =
     tie.close
     (tie.spec
-    slice-aggregate-line-in
-    slice-aggregate-line-in-2
-    slice-aggregate-line-in-3
-    line-in-requires
-    signal-at-requires
+    (λ c. search needs)
+    (λ c. search needs)
+    (λ c. search needs)
+    (λ c κs. search needs)
+    (λ c κs. search needs)
     returns
     returns-2)

@@ -27,21 +27,12 @@ abbrev μ-loop : tie.MeasureT-loop
 loop-holds : tie.Need-loop-holds Inv-loop μ-loop
 loop-holds c = (omega arith, refl)
 
-shared-slice-read-if1 : tie.Need-shared-slice-read-if1 Inv-loop μ-loop
-shared-slice-read-if1 c = search needs
-
 returns : tie.Need-returns Inv-loop μ-loop
 returns c =
     let s = c .before .before .before .before .before .before in
     let a = s .args in
     let l = c .before .before .before .loop in
     sym (l .inv .1 ∙ sym (is-satellite (a .mask) (a .satellites .now) (a .signals .now) (a .biases .now) (s .pre .0) (s .pre .1) (l .i) (c .before .before .loop-test .taken) (c .if1 .taken)))
-
-shared-slice-read-in-mask : tie.Need-shared-slice-read-in-mask Inv-loop μ-loop
-shared-slice-read-in-mask c = search needs
-
-in-mask-requires : tie.Need-in-mask-requires Inv-loop μ-loop
-in-mask-requires c κs = search needs
 
 returns-2 : tie.Need-returns-2 Inv-loop μ-loop
 returns-2 c =
@@ -50,15 +41,6 @@ returns-2 c =
     let l = c .before .before .before .before .before .before .loop in
     sym (l .inv .1 ∙ sym (is-signal (a .mask) (a .satellites .now) (a .signals .now) (a .biases .now) (s .pre .0) (s .pre .1) (l .i) (c .before .before .before .before .before .loop-test .taken) (c .before .before .before .if1 .left) (sym (c .before .in-mask .ensures) ∙ not-true _ (c .if2 .taken))))
 
-mul-fits-bias : tie.Need-mul-fits-bias Inv-loop μ-loop
-mul-fits-bias c = search needs
-
-shared-slice-copy-out-fits-bias : tie.Need-shared-slice-copy-out-fits-bias Inv-loop μ-loop
-shared-slice-copy-out-fits-bias c = search needs
-
-fits-bias-requires : tie.Need-fits-bias-requires Inv-loop μ-loop
-fits-bias-requires c κs = search needs
-
 returns-3 : tie.Need-returns-3 Inv-loop μ-loop
 returns-3 c =
     let s = c .before .before .before .before .before .before .before .before .before .before .before .before in
@@ -66,12 +48,6 @@ returns-3 c =
     let l = c .before .before .before .before .before .before .before .before .before .loop in
     let e = c .before .fits-bias .ensures ∙ ap (fitsTwos 14) (same-16 (getD (a .biases .now) (l .i) (pos 0)) (c .before .before .fits-bias-arg .given)) in
     sym (l .inv .1 ∙ sym (is-range (a .mask) (a .satellites .now) (a .signals .now) (a .biases .now) (s .pre .0) (s .pre .1) (l .i) (c .before .before .before .before .before .before .before .before .loop-test .taken) (c .before .before .before .before .before .before .if1 .left) (sym (c .before .before .before .before .in-mask .ensures) ∙ not-false _ (c .before .before .before .if2 .left)) (sym e ∙ not-true _ (c .if3 .taken))))
-
-add-i : tie.Need-add-i Inv-loop μ-loop
-add-i c = search needs
-
-loop-less : tie.Need-loop-less Inv-loop μ-loop
-loop-less c = search needs
 
 loop-again : tie.Need-loop-again Inv-loop μ-loop
 loop-again c =
@@ -94,16 +70,16 @@ first-fault-spec =
     Inv-loop
     μ-loop
     loop-holds
-    shared-slice-read-if1
+    (λ c. search needs)
     returns
-    shared-slice-read-in-mask
-    in-mask-requires
+    (λ c. search needs)
+    (λ c κs. search needs)
     returns-2
-    mul-fits-bias
-    shared-slice-copy-out-fits-bias
-    fits-bias-requires
+    (λ c. search needs)
+    (λ c. search needs)
+    (λ c κs. search needs)
     returns-3
-    add-i
-    loop-less
+    (λ c. search needs)
+    (λ c. search needs)
     loop-again
     returns-4)

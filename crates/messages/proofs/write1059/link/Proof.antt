@@ -19,12 +19,6 @@ abbrev μ-loop : tie.MeasureT-loop
 loop-holds : tie.Need-loop-holds Inv-loop μ-loop
 loop-holds c = (omega arith, c .pre .2)
 
-sub-i : tie.Need-sub-i Inv-loop μ-loop
-sub-i c = search needs
-
-shared-slice-read-a : tie.Need-shared-slice-read-a Inv-loop μ-loop
-shared-slice-read-a c = search needs
-
 cast-a : tie.Need-cast-a Inv-loop μ-loop
 cast-a c = omega (arith, c .shared-slice-known .given (c .before .before .loop .i - 1))
 
@@ -33,15 +27,6 @@ mul-links c = omega (arith, c .shared-slice-known .given (c .before .before .loo
 
 element-copy-out-links : tie.Need-element-copy-out-links Inv-loop μ-loop
 element-copy-out-links c = c .before .before .before .pre .1 (c .before .before .loop .i - 1) (omega arith)
-
-mul-links-2 : tie.Need-mul-links-2 Inv-loop μ-loop
-mul-links-2 c = omega arith
-
-element-write-links : tie.Need-element-write-links Inv-loop μ-loop
-element-write-links c = omega arith
-
-cast-heads : tie.Need-cast-heads Inv-loop μ-loop
-cast-heads c = omega arith
 
 mul-heads : tie.Need-mul-heads Inv-loop μ-loop
 mul-heads c = omega (arith, c .before .before .before .before .pre .1 (c .before .before .before .loop .i - 1) (omega arith))
@@ -64,9 +49,6 @@ add-counts c =
 
 element-write-counts : tie.Need-element-write-counts Inv-loop μ-loop
 element-write-counts c = c .before .before .before .before .before .pre .1 (c .before .before .before .before .loop .i - 1) (omega arith)
-
-loop-less : tie.Need-loop-less Inv-loop μ-loop
-loop-less c = omega arith
 
 loop-again : tie.Need-loop-again Inv-loop μ-loop
 loop-again c =
@@ -93,20 +75,20 @@ link-spec =
     Inv-loop
     μ-loop
     loop-holds
-    sub-i
-    shared-slice-read-a
+    (λ c. search needs)
+    (λ c. search needs)
     cast-a
     mul-links
     element-copy-out-links
-    mul-links-2
-    element-write-links
-    cast-heads
+    (λ c. omega arith)
+    (λ c. omega arith)
+    (λ c. omega arith)
     mul-heads
     element-write-heads
     mul-counts
     element-copy-out-counts
     add-counts
     element-write-counts
-    loop-less
+    (λ c. omega arith)
     loop-again
     returns)

@@ -18,23 +18,8 @@ abbrev μ-loop : tie.MeasureT-loop
 loop-holds : tie.Need-loop-holds Inv-loop μ-loop
 loop-holds c = (omega arith, omega arith, omega arith)
 
-mul-one-if-some : tie.Need-mul-one-if-some Inv-loop μ-loop
-mul-one-if-some c = search needs
-
-element-copy-out-one-if-some : tie.Need-element-copy-out-one-if-some Inv-loop μ-loop
-element-copy-out-one-if-some c = search needs
-
-one-if-some-requires : tie.Need-one-if-some-requires Inv-loop μ-loop
-one-if-some-requires c κs = search needs
-
 add-m : tie.Need-add-m Inv-loop μ-loop
 add-m c = omega (arith, c .one-if-some .ensures .1)
-
-add-a : tie.Need-add-a Inv-loop μ-loop
-add-a c = omega arith
-
-loop-less : tie.Need-loop-less Inv-loop μ-loop
-loop-less c = omega arith
 
 loop-again : tie.Need-loop-again Inv-loop μ-loop
 loop-again c =
@@ -55,11 +40,11 @@ present-spec =
     Inv-loop
     μ-loop
     loop-holds
-    mul-one-if-some
-    element-copy-out-one-if-some
-    one-if-some-requires
+    (λ c. search needs)
+    (λ c. search needs)
+    (λ c κs. search needs)
     add-m
-    add-a
-    loop-less
+    (λ c. omega arith)
+    (λ c. omega arith)
     loop-again
     returns)

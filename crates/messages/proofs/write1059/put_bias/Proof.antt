@@ -27,9 +27,6 @@ twos-requires c κs =
     rw (toZ-ofZ w16 (s .args .bias) (s .fits .bias))
     (left-fits (number s) [] (left-put (sign s) (number s) (left-all _ _ (sign s ++ number s)) (c .before .before .before .unsigned .ensures)) (s .pre .0), omega arith, omega arith, s .pre .2)
 
-same-length : tie.Need-same-length
-same-length c = search needs
-
 returns : tie.Need-returns
 returns c =
     let s = c .before .before .before .before .before .before .before .before .before in
@@ -37,4 +34,4 @@ returns c =
     left-none (left-put (number s) [] (left-put (sign s) (number s) (left-all _ _ (sign s ++ number s)) (c .before .before .before .before .before .before .unsigned .ensures)) d)
 
 pub put-bias-spec : {M : Type 1} → statement M
-put-bias-spec = tie.close (tie.spec unsigned-requires twos-requires same-length returns)
+put-bias-spec = tie.close (tie.spec unsigned-requires twos-requires (λ c. search needs) returns)

@@ -97,15 +97,6 @@ loop-holds c =
       left-as (ap biasFields (next-records sats (s .args .signals .now) (s .args .biases .now) (d .signals) (d .biases) (s .args .a) 0 (omega arith))) (left-all _ _ _),
     )
 
-shared-slice-read-put-bias : tie.Need-shared-slice-read-put-bias Inv-loop μ-loop
-shared-slice-read-put-bias c = search needs
-
-mul-put-bias : tie.Need-mul-put-bias Inv-loop μ-loop
-mul-put-bias c = search needs
-
-shared-slice-copy-out-put-bias : tie.Need-shared-slice-copy-out-put-bias Inv-loop μ-loop
-shared-slice-copy-out-put-bias c = search needs
-
 put-bias-requires : tie.Need-put-bias-requires Inv-loop μ-loop
 put-bias-requires c κs =
     let s = c .before .before .before .before .before .before .before .before .before .before .before .before .before .before .before .before .before in
@@ -120,12 +111,6 @@ put-bias-requires c κs =
       d .short (l .i) h,
       d .fits (l .i) h,
     )
-
-mul-i : tie.Need-mul-i Inv-loop μ-loop
-mul-i c = omega arith
-
-element-copy-out-i : tie.Need-element-copy-out-i Inv-loop μ-loop
-element-copy-out-i c = omega arith
 
 cast-i : tie.Need-cast-i Inv-loop μ-loop
 cast-i c =
@@ -173,12 +158,12 @@ put-satellite-spec =
     unsigned-requires
     unsigned-requires-2
     loop-holds
-    shared-slice-read-put-bias
-    mul-put-bias
-    shared-slice-copy-out-put-bias
+    (λ c. search needs)
+    (λ c. search needs)
+    (λ c. search needs)
     put-bias-requires
-    mul-i
-    element-copy-out-i
+    (λ c. omega arith)
+    (λ c. omega arith)
     cast-i
     loop-less
     loop-again

@@ -27,18 +27,6 @@ one s a = satelliteFields a (ofSatellite a (all s))
 loop-holds : tie.Need-loop-holds Inv-loop μ-loop
 loop-holds c = (omega arith, left-all _ _ _)
 
-mul-put-satellite : tie.Need-mul-put-satellite Inv-loop μ-loop
-mul-put-satellite c = omega arith
-
-element-copy-out-put-satellite : tie.Need-element-copy-out-put-satellite Inv-loop μ-loop
-element-copy-out-put-satellite c = omega arith
-
-mul-put-satellite-2 : tie.Need-mul-put-satellite-2 Inv-loop μ-loop
-mul-put-satellite-2 c = omega arith
-
-element-copy-out-put-satellite-2 : tie.Need-element-copy-out-put-satellite-2 Inv-loop μ-loop
-element-copy-out-put-satellite-2 c = omega arith
-
 put-satellite-requires : tie.Need-put-satellite-requires Inv-loop μ-loop
 put-satellite-requires c κs =
     let s = c .before .before .before .before .before .before .before .before in
@@ -53,12 +41,6 @@ put-satellite-requires c κs =
       s .pre .3 (l .a) h,
       d .head (l .a) h,
     )
-
-add-a : tie.Need-add-a Inv-loop μ-loop
-add-a c = omega arith
-
-loop-less : tie.Need-loop-less Inv-loop μ-loop
-loop-less c = omega arith
 
 loop-again : tie.Need-loop-again Inv-loop μ-loop
 loop-again c =
@@ -84,13 +66,13 @@ put-satellites-spec =
     Inv-loop
     μ-loop
     loop-holds
-    mul-put-satellite
-    element-copy-out-put-satellite
-    mul-put-satellite-2
-    element-copy-out-put-satellite-2
+    (λ c. omega arith)
+    (λ c. omega arith)
+    (λ c. omega arith)
+    (λ c. omega arith)
     put-satellite-requires
-    add-a
-    loop-less
+    (λ c. omega arith)
+    (λ c. omega arith)
     loop-again
     same-length
     returns)

@@ -27,21 +27,6 @@ returns-4 c =
     let a = c .before .before .before .before .before .before .before .args in
     many-records (a .edition) (a .bytes .now) (a .start) (a .satellites .now) (a .signals .now) (a .biases .now) (c .before .before .before .if1 .left) (c .before .before .if2 .left) (c .before .if3 .left) (c .if4 .taken)
 
-mask-1059-requires : tie.Need-mask-1059-requires
-mask-1059-requires c κs = search needs
-
-first-fault-requires : tie.Need-first-fault-requires
-first-fault-requires c κs = search needs
-
-enum-known-i : tie.Need-enum-known-i
-enum-known-i c = search needs
-
-enum-known-i-2 : tie.Need-enum-known-i-2
-enum-known-i-2 c = search needs
-
-enum-known-i-3 : tie.Need-enum-known-i-3
-enum-known-i-3 c = search needs
-
 enum-told : tie.Need-enum-told
 enum-told c = search needs
 
@@ -71,9 +56,6 @@ returns-7 c =
     some-fault (a .edition) (a .bytes .now) (a .start) (a .satellites .now) (a .signals .now) (a .biases .now) (c .before .before .before .before .before .before .before .before .if1 .left) (c .before .before .before .before .before .before .before .if2 .left) (c .before .before .before .before .before .before .if3 .left) (c .before .before .before .before .before .if4 .left)
     (found (a .edition) _ _ _ (c .before .before .before .before .mask-1059 .ensures) (c .before .before .before .first-fault .ensures) ∙ ap toldFault (c .before .i3 .given .1))
 
-same-length : tie.Need-same-length
-same-length c = search needs
-
 returns-8 : tie.Need-returns-8
 returns-8 c =
     let a = c .before .before .before .before .before .before .before .before .before .before .before .before .before .before .before .args in
@@ -89,15 +71,15 @@ write-edition-spec =
     returns-2
     returns-3
     returns-4
-    mask-1059-requires
-    first-fault-requires
-    enum-known-i
-    enum-known-i-2
-    enum-known-i-3
+    (λ c κs. search needs)
+    (λ c κs. search needs)
+    (λ c. search needs)
+    (λ c. search needs)
+    (λ c. search needs)
     enum-told
     write-sound-requires
     returns-5
     returns-6
     returns-7
-    same-length
+    (λ c. search needs)
     returns-8)

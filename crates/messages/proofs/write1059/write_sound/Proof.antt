@@ -18,16 +18,10 @@ use Rattle.messages.proofs.SoundLaws.{sound-crowded, sound-all, sound-c
 use Rattle.messages.proofs.write1059.write_sound.Statement.{statement}
 use Rattle.messages.proofs.write1059.write_sound.Tie as tie
 
-cast-heads : tie.Need-cast-heads
-cast-heads c = search needs
-
 link-requires : tie.Need-link-requires
 link-requires c κs =
     let s = c .before .before .before .before .before .before in
     (s .pre .1 .few, s .pre .1 .low, linked-none (s .args .satellites .now))
-
-first-crowded-requires : tie.Need-first-crowded-requires
-first-crowded-requires c κs = search needs
 
 returns : tie.Need-returns
 returns c =
@@ -35,29 +29,11 @@ returns c =
     let a = s .args in
     sound-crowded (a .bytes .now) (a .start) (a .satellites .now) (a .signals .now) (a .biases .now) (s .pre .1) _ _ _ (c .before .before .before .link .ensures) _ (c .before .first-crowded .ensures .0) (c .if1 .taken)
 
-present-requires : tie.Need-present-requires
-present-requires c κs = search needs
-
 returns-2 : tie.Need-returns-2
 returns-2 c =
     let s = c .before .before .before .before .before .before .before .before .before .before .before .before .before in
     let a = s .args in
     sound-all (a .bytes .now) (a .start) (a .satellites .now) (a .signals .now) (a .biases .now) (s .pre .1) _ _ _ (c .before .before .before .before .before .before .link .ensures) _ (c .before .before .before .before .first-crowded .ensures .0) (c .before .before .before .if1 .left) _ (c .before .present .ensures .0) (c .if2 .taken)
-
-mul-bits : tie.Need-mul-bits
-mul-bits c = search needs
-
-add-bits : tie.Need-add-bits
-add-bits c = search needs
-
-mul-bits-2 : tie.Need-mul-bits-2
-mul-bits-2 c = search needs
-
-add-bits-2 : tie.Need-add-bits-2
-add-bits-2 c = search needs
-
-has-room-requires : tie.Need-has-room-requires
-has-room-requires c κs = search needs
 
 returns-3 : tie.Need-returns-3
 returns-3 c =
@@ -124,9 +100,6 @@ put-satellites-requires c κs = (rest-fits (c .before .before .before .before .b
 add-t23 : tie.Need-add-t23
 add-t23 c = omega (arith, room (c .before .before .before .before .before .before .before .before .before .before .before))
 
-same-length : tie.Need-same-length
-same-length c = search needs
-
 returns-4 : tie.Need-returns-4
 returns-4 c = written (c .before .before .before .before .before .before .before .before .before .before .before) _ _ (c .before .before .before .before .before .before .before .before .before .unsigned .ensures) _ (c .before .before .put-satellites .ensures)
 
@@ -134,20 +107,20 @@ pub write-sound-spec : {M : Type 1} → statement M
 write-sound-spec =
     tie.close
     (tie.spec
-    cast-heads
+    (λ c. search needs)
     link-requires
-    first-crowded-requires
+    (λ c κs. search needs)
     returns
-    present-requires
+    (λ c κs. search needs)
     returns-2
-    mul-bits
-    add-bits
-    mul-bits-2
-    add-bits-2
-    has-room-requires
+    (λ c. search needs)
+    (λ c. search needs)
+    (λ c. search needs)
+    (λ c. search needs)
+    (λ c κs. search needs)
     returns-3
     unsigned-requires
     put-satellites-requires
     add-t23
-    same-length
+    (λ c. search needs)
     returns-4)

@@ -28,21 +28,6 @@ before s i e q = ap (λ (n : ℕ). isIn (getD s i 0) (take n s)) (sym (sub-zero 
 loop-holds : tie.Need-loop-holds Inv-loop μ-loop
 loop-holds c = (omega arith, refl)
 
-shared-slice-read-is-in : tie.Need-shared-slice-read-is-in Inv-loop μ-loop
-shared-slice-read-is-in c = search needs
-
-sub-is-in : tie.Need-sub-is-in Inv-loop μ-loop
-sub-is-in c = search needs
-
-part-is-in-start : tie.Need-part-is-in-start Inv-loop μ-loop
-part-is-in-start c = search needs
-
-part-is-in-end : tie.Need-part-is-in-end Inv-loop μ-loop
-part-is-in-end c = search needs
-
-is-in-requires : tie.Need-is-in-requires Inv-loop μ-loop
-is-in-requires c κs = search needs
-
 returns : tie.Need-returns Inv-loop μ-loop
 returns c =
     let l = c .before .before .before .before .before .loop in
@@ -50,12 +35,6 @@ returns c =
     let h = c .before .before .before .before .loop-test .taken in
     rw (lt-ltb _ _ h)
     (sym (l .inv .1 ∙ repeat-here s (l .i) h (before s (l .i) (c .before .is-in .ensures) (c .if1 .taken))))
-
-add-i : tie.Need-add-i Inv-loop μ-loop
-add-i c = search needs
-
-loop-less : tie.Need-loop-less Inv-loop μ-loop
-loop-less c = search needs
 
 loop-again : tie.Need-loop-again Inv-loop μ-loop
 loop-again c =
@@ -77,13 +56,13 @@ first-repeat-spec =
     Inv-loop
     μ-loop
     loop-holds
-    shared-slice-read-is-in
-    sub-is-in
-    part-is-in-start
-    part-is-in-end
-    is-in-requires
+    (λ c. search needs)
+    (λ c. search needs)
+    (λ c. search needs)
+    (λ c. search needs)
+    (λ c κs. search needs)
     returns
-    add-i
-    loop-less
+    (λ c. search needs)
+    (λ c. search needs)
     loop-again
     returns-2)

@@ -21,24 +21,12 @@ abbrev μ-loop : tie.MeasureT-loop
 loop-holds : tie.Need-loop-holds Inv-loop μ-loop
 loop-holds c = (omega arith, refl)
 
-shared-slice-read-of-mask : tie.Need-shared-slice-read-of-mask Inv-loop μ-loop
-shared-slice-read-of-mask c = search needs
-
-of-mask-requires : tie.Need-of-mask-requires Inv-loop μ-loop
-of-mask-requires c κs = search needs
-
 returns : tie.Need-returns Inv-loop μ-loop
 returns c =
     let l = c .before .before .before .before .loop in
     let h = c .before .before .before .loop-test .taken in
     rw (lt-ltb _ _ h)
     (sym (l .inv .1 ∙ unknown-here (c .before .before .before .before .before .before .args .signals .now) (l .i) h (sym (c .before .of-mask .ensures) ∙ not-true _ (c .if1 .taken))))
-
-add-i : tie.Need-add-i Inv-loop μ-loop
-add-i c = search needs
-
-loop-less : tie.Need-loop-less Inv-loop μ-loop
-loop-less c = search needs
 
 loop-again : tie.Need-loop-again Inv-loop μ-loop
 loop-again c =
@@ -59,10 +47,10 @@ first-unknown-spec =
     Inv-loop
     μ-loop
     loop-holds
-    shared-slice-read-of-mask
-    of-mask-requires
+    (λ c. search needs)
+    (λ c κs. search needs)
     returns
-    add-i
-    loop-less
+    (λ c. search needs)
+    (λ c. search needs)
     loop-again
     returns-2)

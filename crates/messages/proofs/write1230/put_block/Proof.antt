@@ -50,36 +50,6 @@ behind-8 c = left-put (part (c .before .before .before .before .before .before .
 
 -- ---- the needs
 
-mask-bit-requires : tie.Need-mask-bit-requires
-mask-bit-requires c κs = search needs
-
-mul-mask : tie.Need-mul-mask
-mul-mask c = search needs
-
-mask-bit-requires-2 : tie.Need-mask-bit-requires-2
-mask-bit-requires-2 c κs = search needs
-
-mul-mask-2 : tie.Need-mul-mask-2
-mul-mask-2 c = search needs
-
-add-mask : tie.Need-add-mask
-add-mask c = search needs
-
-mask-bit-requires-3 : tie.Need-mask-bit-requires-3
-mask-bit-requires-3 c κs = search needs
-
-mul-mask-3 : tie.Need-mul-mask-3
-mul-mask-3 c = search needs
-
-add-mask-2 : tie.Need-add-mask-2
-add-mask-2 c = search needs
-
-mask-bit-requires-4 : tie.Need-mask-bit-requires-4
-mask-bit-requires-4 c κs = search needs
-
-add-mask-3 : tie.Need-add-mask-3
-add-mask-3 c = search needs
-
 unsigned-requires : tie.Need-unsigned-requires
 unsigned-requires c κs = (
   left-fits (mask (c .before)) _ (all (c .before)) (c .before .before .before .before .before .before .before .pre .0),
@@ -100,9 +70,6 @@ put-signal-requires-3 c κs = (left-fits (part (c .before .before .before .befor
 put-signal-requires-4 : tie.Need-put-signal-requires-4
 put-signal-requires-4 c κs = (left-fits (part (c .before .before .before .before .before .before .before .before .before .before .before .before .before .before .before .before .before .before .before .before .before .before .before) 9) _ (behind-8 (c .before)) (c .before .before .before .before .before .before .before .before .before .before .before .before .before .before .before .before .before .before .before .before .before .before .before .pre .0), c .before .before .before .before .before .before .before .before .before .before .before .before .before .before .before .before .before .before .before .before .before .before .before .pre .1)
 
-same-length : tie.Need-same-length
-same-length c = search needs
-
 returns : tie.Need-returns
 returns c = left-none (left-put (part (c .before .before .before .before .before .before .before .before .before .before .before .before .before .before .before .before .before .before .before .before .before .before .before .before .before .before) 9) _ (behind-8 (c .before .before .before .before)) (c .before .before .put-signal4 .ensures)) .left
 
@@ -110,20 +77,20 @@ pub put-block-spec : {M : Type 1} → statement M
 put-block-spec =
     tie.close
     (tie.spec
-    mask-bit-requires
-    mul-mask
-    mask-bit-requires-2
-    mul-mask-2
-    add-mask
-    mask-bit-requires-3
-    mul-mask-3
-    add-mask-2
-    mask-bit-requires-4
-    add-mask-3
+    (λ c κs. search needs)
+    (λ c. search needs)
+    (λ c κs. search needs)
+    (λ c. search needs)
+    (λ c. search needs)
+    (λ c κs. search needs)
+    (λ c. search needs)
+    (λ c. search needs)
+    (λ c κs. search needs)
+    (λ c. search needs)
     unsigned-requires
     put-signal-requires
     put-signal-requires-2
     put-signal-requires-3
     put-signal-requires-4
-    same-length
+    (λ c. search needs)
     returns)

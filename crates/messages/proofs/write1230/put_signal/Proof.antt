@@ -27,15 +27,6 @@ abbrev μ-loop : tie.MeasureT-loop
 loop-holds : tie.Need-loop-holds Inv-loop μ-loop
 loop-holds c = (omega arith, left-all _ _ _)
 
-shared-slice-read-if1 : tie.Need-shared-slice-read-if1 Inv-loop μ-loop
-shared-slice-read-if1 c = search needs
-
-mul-twos : tie.Need-mul-twos Inv-loop μ-loop
-mul-twos c = search needs
-
-shared-slice-copy-out-twos : tie.Need-shared-slice-copy-out-twos Inv-loop μ-loop
-shared-slice-copy-out-twos c = search needs
-
 twos-requires : tie.Need-twos-requires Inv-loop μ-loop
 twos-requires c κs =
     let s = c .before .before .before .before .before .before .before .before in
@@ -48,12 +39,6 @@ twos-requires c κs =
       all-fit z (c .twos-arg2 .given),
     )
 
-add-i : tie.Need-add-i Inv-loop μ-loop
-add-i c = search needs
-
-loop-less : tie.Need-loop-less Inv-loop μ-loop
-loop-less c = search needs
-
 loop-again : tie.Need-loop-again Inv-loop μ-loop
 loop-again c =
     let s = c .before .before .before .before .before .before .before .before .before .before .before in
@@ -63,12 +48,6 @@ loop-again c =
       omega arith,
       left-put (bits 16 (twosBits 16 z) ∷ []) _ (left-as (bias-here (s .args .signal) (s .args .signals .now) (s .args .biases .now) (s .pre .1) (l .i) (c .before .before .before .before .before .before .before .loop-test .taken) (c .before .before .before .before .before .if1 .taken)) (l .inv .1)) put,
     )
-
-add-i-2 : tie.Need-add-i-2 Inv-loop μ-loop
-add-i-2 c = search needs
-
-loop-less-2 : tie.Need-loop-less-2 Inv-loop μ-loop
-loop-less-2 c = search needs
 
 loop-again-2 : tie.Need-loop-again-2 Inv-loop μ-loop
 loop-again-2 c =
@@ -94,15 +73,15 @@ put-signal-spec =
     Inv-loop
     μ-loop
     loop-holds
-    shared-slice-read-if1
-    mul-twos
-    shared-slice-copy-out-twos
+    (λ c. search needs)
+    (λ c. search needs)
+    (λ c. search needs)
     twos-requires
-    add-i
-    loop-less
+    (λ c. search needs)
+    (λ c. search needs)
     loop-again
-    add-i-2
-    loop-less-2
+    (λ c. search needs)
+    (λ c. search needs)
     loop-again-2
     same-length
     returns)

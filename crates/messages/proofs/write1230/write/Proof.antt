@@ -24,30 +24,15 @@ returns-3 c =
     let a = c .before .before .before .before .before .args in
     many-records (a .bytes .now) (a .start) (a .signals .now) (a .biases .now) (c .before .before .if1 .left) (c .before .if2 .left) (c .if3 .taken)
 
-first-unknown-requires : tie.Need-first-unknown-requires
-first-unknown-requires c κs = search needs
-
 returns-4 : tie.Need-returns-4
 returns-4 c =
     let a = c .before .before .before .before .before .before .before .args in
     some-unknown (a .bytes .now) (a .start) (a .signals .now) (a .biases .now) (c .before .before .before .before .if1 .left) (c .before .before .before .if2 .left) (c .before .before .if3 .left) _ (c .before .first-unknown .ensures) (c .if4 .taken)
 
-first-repeat-requires : tie.Need-first-repeat-requires
-first-repeat-requires c κs = search needs
-
 returns-5 : tie.Need-returns-5
 returns-5 c =
     let a = c .before .before .before .before .before .before .before .before .before .args in
     some-repeat (a .bytes .now) (a .start) (a .signals .now) (a .biases .now) (c .before .before .before .before .before .before .if1 .left) (c .before .before .before .before .before .if2 .left) (c .before .before .before .before .if3 .left) _ (c .before .before .before .first-unknown .ensures) (c .before .before .if4 .left) _ (c .before .first-repeat .ensures) (c .if5 .taken)
-
-mul-bits : tie.Need-mul-bits
-mul-bits c = search needs
-
-add-bits : tie.Need-add-bits
-add-bits c = search needs
-
-has-room-requires : tie.Need-has-room-requires
-has-room-requires c κs = search needs
 
 returns-6 : tie.Need-returns-6
 returns-6 c =
@@ -65,9 +50,6 @@ put-block-requires c κs =
 add-t9 : tie.Need-add-t9
 add-t9 c = omega (arith, room (c .before .before .before .before))
 
-same-length : tie.Need-same-length
-same-length c = search needs
-
 returns-7 : tie.Need-returns-7
 returns-7 c =
     let a = c .before .before .before .before .before .before .before .before .before .before .before .before .before .before .before .args in
@@ -80,15 +62,15 @@ write-spec =
     returns
     returns-2
     returns-3
-    first-unknown-requires
+    (λ c κs. search needs)
     returns-4
-    first-repeat-requires
+    (λ c κs. search needs)
     returns-5
-    mul-bits
-    add-bits
-    has-room-requires
+    (λ c. search needs)
+    (λ c. search needs)
+    (λ c κs. search needs)
     returns-6
     put-block-requires
     add-t9
-    same-length
+    (λ c. search needs)
     returns-7)
