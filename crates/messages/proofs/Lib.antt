@@ -6,7 +6,6 @@ pub mod OrderLaws
 pub mod TotalOrder
 pub mod MaskLaws
 pub mod MetresLaws
-pub mod AnswerLaws
 pub mod AcceptLaws
 pub mod EveryLaws
 pub mod ManyLaws
@@ -56,4 +55,3 @@ pub mod SoundLaws
 pub mod Signals1230Laws
 pub mod Fields1230Laws
 pub mod Write1230Laws
-pub mod WriteToldLaws

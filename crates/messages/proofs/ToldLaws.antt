@@ -1,4 +1,4 @@
--- An answer of a block's reader is fixed by what it tells, and a call by its statement. Assumes nothing.
+-- An answer of the code is fixed by what it tells, and so by a statement, and with it the lent memory. Assumes nothing.
 use mathlib.Core.Path.{_≡_, refl, sym, ap, _∙_}
 use mathlib.Core.Bool.{cond}
 use mathlib.Core.List.{List}
@@ -7,13 +7,49 @@ use lib.Dec.{eqb}
 use lib.IntN.{ℤ}
 use lib.ListN.{getD}
 use Rattle.bits.specs.Told.{Told, Accepted, Refused, OneToOne}
+use Rattle.bits.specs.Field.{Wrote, wrote}
 use Rattle.bits.proofs.ToldLaws.{found-again}
 use Rattle.messages.specs.Records.{Counted}
 use Rattle.messages.specs.Read1059.{Read1059, outcome1059}
 use Rattle.messages.specs.Read1230.{Read1230, outcome1230}
-use Rattle.messages.specs.Answers.{toldRead}
+use Rattle.messages.specs.Answers.{foundSignal, foundNumber, toldOrder, toldRead, toldBlock}
+use Rattle.messages.specs.declared.signals.SignalFound.{SignalFound}
+use Rattle.messages.specs.declared.signals.SignalFound.the-variants as S
+use Rattle.messages.specs.declared.signals.NumberFound.{NumberFound}
+use Rattle.messages.specs.declared.signals.NumberFound.the-variants as N
+use Rattle.messages.specs.declared.signals.Order.{Order}
+use Rattle.messages.specs.declared.signals.Order.the-variants as O
 use Rattle.messages.specs.declared.answer.BlockRead.{BlockRead}
 use Rattle.messages.specs.declared.answer.BlockRead.the-variants as R
+use Rattle.messages.specs.declared.answer.BlockWritten.{BlockWritten}
+use Rattle.messages.specs.declared.answer.BlockWritten.the-variants as W
+
+-- ---- signals, numbers and their order
+
+pub same-signal-found : (x y : SignalFound) → foundSignal x ≡ foundSignal y → x ≡ y
+same-signal-found (S.At b l) (S.At c m) e = cc
+same-signal-found (S.At b l) S.None e = cc
+same-signal-found S.None (S.At c m) e = cc
+same-signal-found S.None S.None e = refl
+
+pub same-number-found : (x y : NumberFound) → foundNumber x ≡ foundNumber y → x ≡ y
+same-number-found (N.At m) (N.At n) e = cc
+same-number-found (N.At m) N.None e = cc
+same-number-found N.None (N.At n) e = cc
+same-number-found N.None N.None e = refl
+
+pub same-order : (x y : Order) → toldOrder x ≡ toldOrder y → x ≡ y
+same-order O.Less O.Less e = refl
+same-order O.Less O.Equal e = cc
+same-order O.Less O.Greater e = cc
+same-order O.Equal O.Less e = cc
+same-order O.Equal O.Equal e = refl
+same-order O.Equal O.Greater e = cc
+same-order O.Greater O.Less e = cc
+same-order O.Greater O.Equal e = cc
+same-order O.Greater O.Greater e = refl
+
+-- ---- reading a block
 
 read : Told Counted → BlockRead
 read (Accepted c) = R.Records (c .count) (c .end)
@@ -41,3 +77,34 @@ pub only-read1230 : (d : Read1230) {x y : BlockRead} {gs gs′ : List ℕ} {zs z
 only-read1230 d p q =
     let e = p ∙ sym q in
     (read-one-to-one .same (ap (λ r. r .answer) e), ap (λ r. r .signals) e, ap (λ r. r .biases) e)
+
+-- ---- writing a block
+
+block : Told ℕ → BlockWritten
+block (Accepted q) = W.End q
+block (Refused n carried) =
+    cond (eqb n 9) W.Size
+    (cond (eqb n 5) (W.Satellite (getD carried 0 0))
+    (cond (eqb n 4) (W.Signal (getD carried 0 0))
+    (cond (eqb n 3) (W.Range (getD carried 0 0))
+    (cond (eqb n 6) (W.TooMany (getD carried 0 0))
+    (cond (eqb n 7) (W.Duplicate (getD carried 0 0))
+    (W.Room (getD carried 0 0)))))))
+
+block-again : (x : BlockWritten) → block (toldBlock x) ≡ x
+unfolding block
+block-again (W.End q) = refl
+block-again W.Size = refl
+block-again (W.Satellite i) = refl
+block-again (W.Signal i) = refl
+block-again (W.Range i) = refl
+block-again (W.TooMany a) = refl
+block-again (W.Duplicate i) = refl
+block-again (W.Room n) = refl
+
+pub block-one-to-one : OneToOne toldBlock
+block-one-to-one = found-again toldBlock block block-again
+
+-- two outcomes that a statement allows are equal, the data too
+pub only-block : (d : Wrote) {x y : BlockWritten} {s t : List ℕ} → wrote (toldBlock x) s ≡ d → wrote (toldBlock y) t ≡ d → (x ≡ y) × (s ≡ t)
+only-block d p q = (block-one-to-one .same (ap (λ r. r .answer) (p ∙ sym q)), ap (λ r. r .bytes) (p ∙ sym q))
