@@ -14,10 +14,11 @@ use Rattle.bits.specs.Field.{Reading, reading, field, readTwos}
 use Rattle.bits.specs.Signed.{twosOf}
 use Rattle.bits.proofs.ReadLaws.{reads-value, reads-short}
 use Rattle.messages.specs.Reader.{before}
-use Rattle.messages.specs.Records.{Rec1230, rec1230, counted}
+use Rattle.messages.specs.Records.{Rec1230, rec1230, Counted, counted}
 use Rattle.messages.specs.Writer.{keep}
 use Rattle.messages.specs.Read1230.{maskSignals, masked, biasesAt}
 use Rattle.messages.specs.ReadSteps.{counts, Placed, Stored, Lists1230, lists1230, put1230}
+use Rattle.messages.proofs.ArmLaws.{IsRefused}
 use Rattle.messages.proofs.PassLaws.{chain, counts-short, stored-one}
 use Rattle.messages.proofs.PutLaws.{put1230-on}
 use Rattle.messages.proofs.StoreLaws.{Doing, left-as, step-placed, step-read, step-stored}
@@ -150,10 +151,10 @@ module _ (s l : List ℕ) (k m p : ℕ) (is : l ≡ maskSignals) (h : k < 4) (bi
     pub signal-placed : Placed i (biasesAt s (getD l k 0 ∷ []) p) n
     signal-placed = step-placed put1230 i (biasesAt s (getD l k 0 ∷ []) p) later (left-as put1230 d signal-left)
 
-    pub signal-read : {x : ℕ} {carried : List ℕ} → Refused x carried ≡ counts i (biasesAt s (getD l k 0 ∷ []) p) → ⊥
-    signal-read e = step-read put1230 i (biasesAt s (getD l k 0 ∷ []) p) later (left-as put1230 d signal-left) e
+    pub signal-read : {answer : Told Counted} → IsRefused answer → answer ≡ counts i (biasesAt s (getD l k 0 ∷ []) p) → ⊥
+    signal-read r e = step-read put1230 i (biasesAt s (getD l k 0 ∷ []) p) later (left-as put1230 d signal-left) r e
 
-    pub signal-stored : {j q : ℕ} {new : Lists1230} → Stored put1230 i (biasesAt s (getD l k 0 ∷ []) p) (Accepted (counted j q)) now new
+    pub signal-stored : {answer : Told Counted} {j q : ℕ} {new : Lists1230} → Stored put1230 i (biasesAt s (getD l k 0 ∷ []) p) answer now new → answer ≡ Accepted (counted j q)
         → Doing put1230 first n whole old j (biasesAt s (masked (drop (k + 1) maskSignals) m) q) new
     unfolding later
-    signal-stored w = step-stored put1230 i (biasesAt s (getD l k 0 ∷ []) p) later (left-as put1230 d signal-left) put1230-on w
+    signal-stored w e = step-stored put1230 i (biasesAt s (getD l k 0 ∷ []) p) later (left-as put1230 d signal-left) put1230-on w e

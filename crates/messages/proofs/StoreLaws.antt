@@ -3,12 +3,13 @@ use mathlib.Core.Path.{_≡_, refl, sym, ap, _∙_}
 use mathlib.Core.List.{List, [], _++_}
 use Prim.Native.Nat.{ℕ, _+_, _-_, _≤_, _<_}
 use lib.ListN.{length}
-use Rattle.bits.specs.Told.{Told, Accepted, Refused}
+use Rattle.bits.specs.Told.{Told, Accepted}
 use Rattle.bits.specs.Field.{Reading, reading}
 use Rattle.messages.specs.Reader.{many}
-use Rattle.messages.specs.Records.{counted}
+use Rattle.messages.specs.Records.{Counted, counted}
 use Rattle.messages.specs.ReadSteps.{counts, found, Placed, Stored}
-use Rattle.messages.proofs.PassLaws.{chain, counts-none, counts-on, placed-on, placed-first, not-stopped, stored-on, many-left, many-none}
+use Rattle.messages.proofs.ArmLaws.{IsRefused}
+use Rattle.messages.proofs.PassLaws.{chain, counts-none, counts-on, placed-on, placed-first, not-stopped, stored-on, stored-answer, many-left, many-none}
 
 module _ {A S : Type 0} (put : ℕ → List A → S → S) where
   -- of `whole`, which goes into lists of n places from place `first` on, `rest` is left and goes there from place i on
@@ -43,28 +44,31 @@ module _ {A S : Type 0} (put : ℕ → List A → S → S) where
       pub step-placed : Placed i t n
       step-placed = placed-first i t later (d .placed)
 
-      pub step-read : {m : ℕ} {carried : List ℕ} → Refused m carried ≡ counts i t → ⊥
-      step-read e = not-stopped i t later (d .placed) e
+      pub step-read : {answer : Told Counted} → IsRefused answer → answer ≡ counts i t → ⊥
+      step-read r e = not-stopped i t later (d .placed) (sym (r .is) ∙ e)
 
       pub step-stored : ((i : ℕ) (xs ys : List A) (l : S) → put i (xs ++ ys) l ≡ put (i + length xs) ys (put i xs l))
-          → {j q : ℕ} {new : S} → Stored put i t (Accepted (counted j q)) now new → Doing first n whole old j (later q) new
-      step-stored put-on w = record {
-        says = d .says ∙ counts-on i t later (w .says);
-        lists = d .lists ∙ stored-on i t later put put-on (d .placed) w;
-        placed = placed-on i t later (d .placed) (w .says);
-      }
+          → {answer : Told Counted} {j q : ℕ} {new : S} → Stored put i t answer now new → answer ≡ Accepted (counted j q) → Doing first n whole old j (later q) new
+      step-stored put-on w e =
+          let v = stored-answer put e w in
+          record {
+            says = d .says ∙ counts-on i t later (v .says);
+            lists = d .lists ∙ stored-on i t later put put-on (d .placed) v;
+            placed = placed-on i t later (d .placed) (v .says);
+          }
 
     -- a turn of m like steps, of which k are done
     module _ (f : ℕ → Told (Reading (List A))) (m k p i : ℕ) {now : S} (d : Doing first n whole old i (many f (m - k) p) now) where
       pub turn-placed : k < m → Placed i (f p) n
       turn-placed h = step-placed i (f p) (many f (m - (k + 1))) (left-as d (many-left f m k p h))
 
-      pub turn-read : k < m → {x : ℕ} {carried : List ℕ} → Refused x carried ≡ counts i (f p) → ⊥
-      turn-read h e = step-read i (f p) (many f (m - (k + 1))) (left-as d (many-left f m k p h)) e
+      pub turn-read : k < m → {answer : Told Counted} → IsRefused answer → answer ≡ counts i (f p) → ⊥
+      turn-read h r e = step-read i (f p) (many f (m - (k + 1))) (left-as d (many-left f m k p h)) r e
 
       pub turn-stored : k < m → ((i : ℕ) (xs ys : List A) (l : S) → put i (xs ++ ys) l ≡ put (i + length xs) ys (put i xs l))
-          → {j q : ℕ} {new : S} → Stored put i (f p) (Accepted (counted j q)) now new → Doing first n whole old j (many f (m - (k + 1)) q) new
-      turn-stored h put-on w = step-stored i (f p) (many f (m - (k + 1))) (left-as d (many-left f m k p h)) put-on w
+          → {answer : Told Counted} {j q : ℕ} {new : S} → Stored put i (f p) answer now new → answer ≡ Accepted (counted j q)
+          → Doing first n whole old j (many f (m - (k + 1)) q) new
+      turn-stored h put-on w e = step-stored i (f p) (many f (m - (k + 1))) (left-as d (many-left f m k p h)) put-on w e
 
       pub turns-done : m ≤ k → ((i : ℕ) (l : S) → put i [] l ≡ l) → Stored put first whole (Accepted (counted i p)) old now
       turns-done h put-none = done d put-none (many-none f m k p h)

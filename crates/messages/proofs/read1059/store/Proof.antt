@@ -1,5 +1,5 @@
 -- The satellites are stored one behind the other. Assumes nothing.
-use mathlib.Core.Path.{_≡_, refl, sym, ap, _∙_}
+use mathlib.Core.Path.{_≡_, refl, ap}
 use Prim.Native.Nat.{_-_, _≤_}
 use native.Mathlib.Omega.{arith}
 use borrow.Author.Needs.{needs}
@@ -9,7 +9,7 @@ use Rattle.messages.specs.ReadSteps.{lists1059, put1059}
 use Rattle.messages.specs.Read1059.{satelliteAt}
 use Rattle.messages.specs.Answers.{toldRead}
 use Rattle.messages.proofs.ArmLaws.{read-refused}
-use Rattle.messages.proofs.PassLaws.{many-all, stored-answer}
+use Rattle.messages.proofs.PassLaws.{many-all}
 use Rattle.messages.proofs.StoreLaws.{Doing, begun, left-as, turn-placed, turn-read, turn-stored, turns-done}
 use Rattle.messages.proofs.PutLaws.{put1059-none, put1059-on}
 use Rattle.messages.proofs.read1059.store.Statement.{statement}
@@ -43,8 +43,7 @@ returns : tie.Need-returns Inv-loop μ-loop
 returns c =
     let l = c .before .before .before .before .before .before .before .before .before .before .before .loop in
     let s = c .before .before .before .before .before .before .store-satellite in
-    let r = read-refused (s .result) (c .match .keys2) in
-    absurd (turn-read put1059 _ _ (l .k) (l .at) (l .i) (l .inv .4) (omega arith) (sym (r .is) ∙ s .ensures .says))
+    absurd (turn-read put1059 _ _ (l .k) (l .at) (l .i) (l .inv .4) (omega arith) (read-refused (s .result) (c .match .keys2)) (s .ensures .says))
 
 loop-again : tie.Need-loop-again Inv-loop μ-loop
 loop-again c =
@@ -54,7 +53,7 @@ loop-again c =
       omega arith,
       omega arith,
       omega arith,
-      turn-stored put1059 _ _ (l .k) (l .at) (l .i) (l .inv .4) (omega arith) put1059-on (stored-answer put1059 (ap toldRead (c .before .one .given .1)) (s .ensures)),
+      turn-stored put1059 _ _ (l .k) (l .at) (l .i) (l .inv .4) (omega arith) put1059-on (s .ensures) (ap toldRead (c .before .one .given .1)),
     )
 
 returns-2 : tie.Need-returns-2 Inv-loop μ-loop

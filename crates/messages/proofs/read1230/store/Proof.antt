@@ -1,5 +1,5 @@
 -- The signals of the mask are passed one by one, and the biases of those whose bit is set are stored. Assumes nothing.
-use mathlib.Core.Path.{_≡_, refl, sym, ap, _∙_}
+use mathlib.Core.Path.{_≡_, refl, ap}
 use Prim.Native.Nat.{_-_, _≤_}
 use native.Mathlib.Omega.{arith}
 use borrow.Author.Needs.{needs}
@@ -8,7 +8,6 @@ use Rattle.messages.specs.Read1230.{maskSignals, masked, biasesAt}
 use Rattle.messages.specs.ReadSteps.{lists1230, put1230}
 use Rattle.messages.specs.Answers.{toldRead}
 use Rattle.messages.proofs.ArmLaws.{read-refused}
-use Rattle.messages.proofs.PassLaws.{stored-answer}
 use Rattle.messages.proofs.StoreLaws.{Doing, begun, left-as, done}
 use Rattle.messages.proofs.PutLaws.{put1230-none}
 use Rattle.messages.proofs.Laws1230.{masked-lacks, masked-none, signal-placed, signal-read, signal-stored}
@@ -47,8 +46,7 @@ returns : tie.Need-returns Inv-loop μ-loop
 returns c =
     let l = c .before .before .before .before .before .before .before .before .before .before .loop in
     let s = c .before .before .before .before .store-bias in
-    let r = read-refused (s .result) (c .match .keys2) in
-    absurd (signal-read _ _ (l .k) _ (l .at) (c .before .before .before .before .before .before .before .before .before .before .before .before .before .pre .0) (omega arith) (c .before .before .before .before .before .before .before .before .if1 .left) (l .i) (l .inv .3) (sym (r .is) ∙ s .ensures .says))
+    absurd (signal-read _ _ (l .k) _ (l .at) (c .before .before .before .before .before .before .before .before .before .before .before .before .before .pre .0) (omega arith) (c .before .before .before .before .before .before .before .before .if1 .left) (l .i) (l .inv .3) (read-refused (s .result) (c .match .keys2)) (s .ensures .says))
 
 loop-again-2 : tie.Need-loop-again-2 Inv-loop μ-loop
 loop-again-2 c =
@@ -58,7 +56,7 @@ loop-again-2 c =
       omega arith,
       omega arith,
       signal-stored _ _ (l .k) _ (l .at) (c .before .before .before .before .before .before .before .before .before .before .before .before .before .before .before .pre .0) (omega arith) (c .before .before .before .before .before .before .before .before .before .before .if1 .left) (l .i) (l .inv .3)
-          (stored-answer put1230 (ap toldRead (c .before .one .given .1)) (s .ensures)),
+          (s .ensures) (ap toldRead (c .before .one .given .1)),
     )
 
 returns-2 : tie.Need-returns-2 Inv-loop μ-loop
