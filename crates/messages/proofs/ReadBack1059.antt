@@ -10,9 +10,9 @@ use lib.ListN.{length}
 use lib.IntN.{ℤ}
 use lib.Dec.{eqb}
 use Rattle.bits.specs.Told.{Accepted}
-use Rattle.bits.specs.Field.{reading, Wrote, wrote}
-use Rattle.bits.specs.Fields.{Field, total, putAll, Holds}
-use Rattle.bits.proofs.FieldsLaws.{total-append, holds-append, put-all-holds, length-put-all}
+use Rattle.bits.specs.Field.{reading}
+use Rattle.bits.specs.Fields.{Field, total, Holds}
+use Rattle.bits.proofs.FieldsLaws.{total-append, holds-append}
 use Rattle.messages.specs.Every.{Every}
 use Rattle.messages.specs.Reader.{many}
 use Rattle.messages.specs.Records.{Rec1059, records1059}
@@ -23,6 +23,7 @@ use Rattle.messages.proofs.AcceptLaws.{field-then}
 use Rattle.messages.proofs.ManyLaws.{many-none, many-more}
 use Rattle.messages.proofs.Biases1059.{Own, biases-read}
 use Rattle.messages.proofs.Accepts1059.{Writable, records-written, records-accepted, call-written, call-accepted}
+use Rattle.messages.proofs.WrittenRun.{reads-run}
 use Rattle.messages.proofs.FitLaws.{of-writable, fields-fit}
 
 module _ (t : List ℕ) (few : length t ≤ 1023) where
@@ -75,15 +76,9 @@ module _ (t : List ℕ) (few : length t ≤ 1023) where
 
 pub reads-back-1059 : (e : ℕ) (s : List ℕ) (p : ℕ) (sats gs : List ℕ) (zs : List ℤ) {q : ℕ} → write1059 e s p sats gs zs .answer ≡ Accepted q
     → block1059 (write1059 e s p sats gs zs .bytes) p ≡ Accepted (reading (inOrder1059 (records1059 sats gs zs)) q)
-reads-back-1059 e s p sats gs zs {q} h =
+reads-back-1059 e s p sats gs zs h =
     let c = call-accepted e s p sats gs zs h in
     let rs = records1059 sats gs zs in
     let w = records-accepted e s p rs (c .1) in
-    let fs = fields1059 rs in
-    let t = putAll s p fs in
-    let i : write1059 e s p sats gs zs ≡ wrote (Accepted (p + total fs)) t = call-written e s p sats gs zs (c .0) ∙ records-written e s p rs w in
-    let end : p + total fs ≡ q = cc (ap (λ (x : Wrote). x .answer) i) in
-    let len : length t ≡ length s = length-put-all s p fs in
-    ap (λ (x : Wrote). block1059 (x .bytes) p) i
-    ∙ block-reads t (omega (arith, c .0 .few)) e rs (w .clean) p (put-all-holds s p fs (w .within) (fields-fit e s p rs w)) (omega (arith, w .within))
-    ∙ ap (λ (k : ℕ). Accepted (reading (inOrder1059 rs) k)) end
+    reads-run (λ t. block1059 t p) s p (fields1059 rs) (call-written e s p sats gs zs (c .0) ∙ records-written e s p rs w) h (c .0 .few) (w .within) (fields-fit e s p rs w)
+    (λ t few stands l. block-reads t few e rs (w .clean) p stands l)

@@ -8,10 +8,9 @@ use native.Mathlib.Omega.{arith}
 use lib.ListN.{length, getD}
 use lib.IntN.{ℤ, pos}
 use Rattle.bits.specs.Told.{Accepted}
-use Rattle.bits.specs.Field.{field, reading, Wrote, wrote}
+use Rattle.bits.specs.Field.{field, reading}
 use Rattle.bits.specs.Signed.{fitsTwos}
-use Rattle.bits.specs.Fields.{total, putAll, Holds, Fit}
-use Rattle.bits.proofs.FieldsLaws.{put-all-holds, length-put-all}
+use Rattle.bits.specs.Fields.{total, Holds, Fit}
 use Rattle.bits.proofs.SignedLaws.{twos-bits-lt}
 use Rattle.messages.specs.Every.{Every}
 use Rattle.messages.specs.Records.{Rec1230, rec1230, biasOf1230, records1230}
@@ -22,6 +21,7 @@ use Rattle.messages.specs.InOrder.{inOrder1230}
 use Rattle.messages.proofs.AcceptLaws.{field-then}
 use Rattle.messages.proofs.Biases1230.{Fits, biases-read}
 use Rattle.messages.proofs.MaskOrderLaws.{mask-lt, order-signals, order-biases, order-fits}
+use Rattle.messages.proofs.WrittenRun.{reads-run}
 use Rattle.messages.proofs.RepeatLaws.{once}
 use Rattle.messages.proofs.Accepts1230.{records-written, records-accepted, call-written, call-accepted}
 
@@ -56,16 +56,10 @@ module _ (rs : List Rec1230) (fits : Every Fits rs) where
 
 pub reads-back-1230 : (s : List ℕ) (p : ℕ) (gs : List ℕ) (zs : List ℤ) {q : ℕ} → Raw1230 zs → write1230 s p gs zs .answer ≡ Accepted q
     → block1230 (write1230 s p gs zs .bytes) p ≡ Accepted (reading (inOrder1230 (records1230 gs zs)) q)
-reads-back-1230 s p gs zs {q} raw h =
+reads-back-1230 s p gs zs raw h =
     let c = call-accepted s p gs zs h in
     let rs = records1230 gs zs in
     let f = raw-fits gs zs (raw .fits) in
     let w = records-accepted s p rs (c .1) in
-    let fs = fields1230 rs in
-    let t = putAll s p fs in
-    let i : write1230 s p gs zs ≡ wrote (Accepted (p + total fs)) t = call-written s p gs zs (c .0) ∙ records-written s p rs w in
-    let end : p + total fs ≡ q = cc (ap (λ (x : Wrote). x .answer) i) in
-    let len : length t ≡ length s = length-put-all s p fs in
-    ap (λ (x : Wrote). block1230 (x .bytes) p) i
-    ∙ block-reads rs f t p (omega (arith, c .0 .few)) (λ g. once g 0 [] rs (w .single)) (put-all-holds s p fs (w .within) (fields-fit rs f)) (omega (arith, w .within))
-    ∙ ap (λ (k : ℕ). Accepted (reading (inOrder1230 rs) k)) end
+    reads-run (λ t. block1230 t p) s p (fields1230 rs) (call-written s p gs zs (c .0) ∙ records-written s p rs w) h (c .0 .few) (w .within) (fields-fit rs f)
+    (λ t few stands l. block-reads rs f t p few (λ g. once g 0 [] rs (w .single)) stands l)

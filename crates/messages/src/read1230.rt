@@ -12,7 +12,7 @@ use bits::field::Signed;
 use bits::field::Unsigned;
 
 // The signals of the mask from its top bit, 1C, 1P, 2C and 2P, by their glo numbers.
-const SIGNALS: [u8; 4] = [2, 3, 8, 9];
+pub(crate) const MASK_SIGNALS: [u8; 4] = [2, 3, 8, 9];
 
 // Reads the block from bit `start` on. The first places of the lists take its records, once all of it is read and they have room.
 pub fn read(bytes: &[u8], start: usize, signals: &mut [u8], biases: &mut [i16]) -> BlockRead
@@ -35,7 +35,7 @@ pub fn read(bytes: &[u8], start: usize, signals: &mut [u8], biases: &mut [i16]) 
     if signals.len() < count {
         return BlockRead::Room(count);
     }
-    let numbers = SIGNALS;
+    let numbers = MASK_SIGNALS;
     store(bytes, at, mask, &numbers, signals, biases)
 }
 

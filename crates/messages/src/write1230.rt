@@ -17,9 +17,7 @@ ghost use Rattle.messages.specs.Write1230.{isIn, ofSignal, biasFields16,
 ghost use Rattle.messages.specs.Steps1230.{unknownAt, repeatIn};
 use crate::answer::BlockWritten;
 use crate::put;
-
-// The signals of the mask, from its top bit.
-const MASK_SIGNALS: [u8; 4] = [2, 3, 8, 9];
+use crate::read1230::MASK_SIGNALS;
 
 // Writes the block of the records from bit `start` on, in the order of the mask, whatever order the list has. Record i is
 // signal i and bias i of two lists of one length.
