@@ -16,7 +16,7 @@ use Rattle.messages.specs.Read1230.{maskSignals}
 use Rattle.messages.specs.Writer.{fine, firstFault}
 use Rattle.messages.specs.Write1230.{isIn, fault1230, firstRepeat, fields1230, writeRecords1230, write1230}
 use Rattle.messages.proofs.AcceptLaws.{cond-accepted, unless-accepted}
-use Rattle.messages.proofs.WrittenRun.{run-put, run-accepted}
+use Rattle.messages.proofs.WriterLaws.{run-put, run-accepted}
 
 -- ---- faults
 

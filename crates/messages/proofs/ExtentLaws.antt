@@ -16,9 +16,8 @@ use Rattle.messages.specs.Read1230.{maskSignals, masked, biasesAt, block
 use Rattle.messages.specs.Write1059.{biasFields}
 use Rattle.messages.specs.Satellites1059.{Sat, recordsOf}
 use Rattle.messages.proofs.Fields1059Laws.{total-biases}
-use Rattle.messages.proofs.SatellitesStand.{Sound, satFields, block-stands}
-use Rattle.messages.proofs.SatelliteRecords.{block-satellites}
-use Rattle.messages.proofs.Laws1230.{biases-tell, masked-length}
+use Rattle.messages.proofs.Satellites1059Laws.{Sound, satFields, block-stands, block-satellites}
+use Rattle.messages.proofs.Read1230Laws.{biases-tell, masked-length}
 
 -- ---- message 1059: 6 bits, 11 a satellite and 19 a record
 

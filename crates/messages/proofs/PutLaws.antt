@@ -1,70 +1,121 @@
--- Storing records in lent lists of their parts. Assumes nothing.
-use mathlib.Core.Path.{_≡_, refl, sym, ap, _∙_}
-use mathlib.Core.List.{List, [], _∷_, _++_, map}
-use Prim.Native.Nat.{ℕ, suc, _+_, _≤_}
-use native.Mathlib.Nat.{add-zero, zero-add, add-suc, suc-add}
-use lib.IntN.{ℤ}
-use lib.ListN.{length, set, length-map}
-use lib.Seq.{sets, sets-eq}
-use Rattle.bits.specs.Onto.{onto}
-use Rattle.bits.proofs.OntoLaws.{over-zero}
-use Rattle.messages.specs.Records.{Rec1059, satelliteOf, signalOf1059, biasOf1059, Rec1230, signalOf1230, biasOf1230}
-use Rattle.messages.specs.ReadSteps.{Lists1059, lists1059, put1059, Lists1230, lists1230, put1230}
+-- Fields that are put where they are known to fit: one field, as the code takes the answer, and a run part by part. Assumes nothing.
+use mathlib.Core.Path.{_≡_, refl, sym, ap, ap₂, subst, _∙_}
+use mathlib.Core.List.{List, [], _∷_, _++_}
+use mathlib.Core.Logic.{⊎-elim}
+use mathlib.Core.Bool.{Bool, true}
+use Prim.Native.Nat.{ℕ, _+_, _-_, _≤_}
+use native.Mathlib.Nat.{add-zero}
+use native.Mathlib.Decide.{decLe}
+use native.Mathlib.Omega.{arith}
+use borrow.Author.Tests.{le-leb, lt-leb}
+use lib.Dec.{leb}
+use lib.ListN.{length}
+use types.Run.{OneOf}
+use denote.Enum.Declared.{tagOf}
+use Rattle.bits.specs.Field.{putField, wrote, writeBy}
+use Rattle.bits.specs.Fields.{Field, bits, total, putAll}
+use Rattle.bits.specs.Answers.{toldWritten}
+use Rattle.bits.specs.declared.field.Written.{Written}
+use Rattle.bits.specs.declared.field.Written.the-variants.{End}
+use Rattle.bits.proofs.FieldsLaws.{total-append, put-append, length-put-all}
+use Rattle.bits.proofs.field.Written.{the-type}
+use Rattle.bits.proofs.WriteLaws.{writes}
+use Rattle.bits.proofs.ToldLaws.{only-wrote}
+use Rattle.messages.specs.Put.{Fits, Did}
 
--- ---- one list
+-- the test for room, as the code makes it
+pub room-test : (start n all : ℕ) → n ≤ all → leb start (all - n) ≡ leb (start + n) all
+room-test start n all h = go (decLe start (all - n))
+  where
+    go : Dec (start ≤ all - n) → leb start (all - n) ≡ leb (start + n) all
+    go (yes l) = le-leb start (all - n) l ∙ sym (le-leb (start + n) all (omega arith))
+    go (no l) = lt-leb start (all - n) (omega arith) ∙ sym (lt-leb (start + n) all (omega arith))
 
-sets-on : {B : Type 0} (l : List B) (i : ℕ) (xs ys : List B) → sets l i (xs ++ ys) ≡ sets (sets l i xs) (i + length xs) ys
-sets-on l i [] ys = ap (λ (n : ℕ). sets l n ys) (sym (add-zero i))
-sets-on l i (x ∷ xs) ys =
-    sets-on (set l i x) (suc i) xs ys
-    ∙ ap (λ (n : ℕ). sets (sets (set l i x) (suc i) xs) n ys) (suc-add i (length xs) ∙ sym (add-suc i (length xs)))
+-- one field
+pub total-one : (w v : ℕ) → total (bits w v ∷ []) ≡ w
+unfolding total
+total-one w v = add-zero w
 
-module _ {A B : Type 0} (part : A → B) where
-  map-on : (xs ys : List A) → map part (xs ++ ys) ≡ map part xs ++ map part ys
-  map-on [] ys = refl
-  map-on (x ∷ xs) ys = ap (λ (l : List B). part x ∷ l) (map-on xs ys)
+pub put-one : (s : List ℕ) (p w v : ℕ) → putAll s p (bits w v ∷ []) ≡ putField s p w v
+unfolding putAll
+put-one s p w v = refl
 
-  parts-on : (i : ℕ) (xs ys : List A) (l : List B) → sets l i (map part (xs ++ ys)) ≡ sets (sets l i (map part xs)) (i + length xs) (map part ys)
-  parts-on i xs ys l =
-      ap (sets l i) (map-on xs ys)
-      ∙ sets-on l i (map part xs) (map part ys)
-      ∙ ap (λ (n : ℕ). sets (sets l i (map part xs)) (i + n) (map part ys)) (length-map xs part)
+total-none : total [] ≡ 0
+unfolding total
+total-none = refl
 
-  -- stored from the first place on, records stand over the front
-  parts-front : (xs : List A) (l : List B) → length xs ≤ length l → sets l 0 (map part xs) ≡ onto (map part xs) l
-  parts-front xs l h = sets-eq (map part xs) l 0 (rw (zero-add, length-map) h) ∙ over-zero (map part xs) l
+put-none : (s : List ℕ) (p : ℕ) → putAll s p [] ≡ s
+unfolding putAll
+put-none s p = refl
 
--- ---- the lists of message 1059
+-- nothing is put
+pub did-none : (s : List ℕ) (p : ℕ) {fs : List Field} → fs ≡ [] → Did s p fs s p
+did-none s p {fs} e = subst (λ (l : List Field). Did s p l s p) (sym e) (record { end = sym (ap (λ (n : ℕ). p + n) total-none ∙ add-zero p); left = sym (put-none s p) })
 
-pub put1059-none : (i : ℕ) (l : Lists1059) → put1059 i [] l ≡ l
-unfolding put1059
-put1059-none i l = refl
+-- of the run fs₀ from bit p₀ of s₀ on, fs is left to put from bit p of s on
+pub record Left (s₀ : List ℕ) (p₀ : ℕ) (fs₀ : List Field) (s : List ℕ) (p : ℕ) (fs : List Field) : Type 0 where
+  pub same : length s ≡ length s₀
+  pub place : p + total fs ≡ p₀ + total fs₀
+  pub rest : putAll s₀ p₀ fs₀ ≡ putAll s p fs
 
-pub put1059-on : (i : ℕ) (xs ys : List Rec1059) (l : Lists1059) → put1059 i (xs ++ ys) l ≡ put1059 (i + length xs) ys (put1059 i xs l)
-unfolding put1059
-put1059-on i xs ys l = rw (parts-on satelliteOf i xs ys (l .satellites), parts-on signalOf1059 i xs ys (l .signals), parts-on biasOf1059 i xs ys (l .biases))
+pub left-all : (s : List ℕ) (p : ℕ) (fs : List Field) → Left s p fs s p fs
+left-all s p fs = record { same = refl; place = refl; rest = refl }
 
-pub put1059-front : (rs : List Rec1059) (sats gs : List ℕ) (zs : List ℤ) → length rs ≤ length sats → length gs ≡ length sats → length zs ≡ length sats
-    → put1059 0 rs (lists1059 sats gs zs) ≡ lists1059 (onto (map satelliteOf rs) sats) (onto (map signalOf1059 rs) gs) (onto (map biasOf1059 rs) zs)
-unfolding put1059
-put1059-front rs sats gs zs h d e =
-    let j : length rs ≤ length gs = rw d h in
-    let k : length rs ≤ length zs = rw e h in
-    rw (parts-front satelliteOf rs sats h, parts-front signalOf1059 rs gs j, parts-front biasOf1059 rs zs k)
+-- what is left of what was left
+pub left-on : {s₀ s t : List ℕ} {p₀ p q : ℕ} {fs₀ fs gs : List Field} → Left s₀ p₀ fs₀ s p fs → Left s p fs t q gs → Left s₀ p₀ fs₀ t q gs
+left-on l m = record { same = m .same ∙ l .same; place = m .place ∙ l .place; rest = l .rest ∙ m .rest }
 
--- ---- the lists of message 1230
+module _ {s₀ : List ℕ} {p₀ : ℕ} {fs₀ : List Field} {s : List ℕ} {p : ℕ} where
+  -- what is left, by another name
+  pub left-as : {fs gs : List Field} → fs ≡ gs → Left s₀ p₀ fs₀ s p fs → Left s₀ p₀ fs₀ s p gs
+  left-as e l = subst (λ x. Left s₀ p₀ fs₀ s p x) e l
 
-pub put1230-none : (i : ℕ) (l : Lists1230) → put1230 i [] l ≡ l
-unfolding put1230
-put1230-none i l = refl
+  -- the first part of what is left fits
+  pub left-fits : (xs ys : List Field) → Left s₀ p₀ fs₀ s p (xs ++ ys) → Fits s₀ p₀ fs₀ → Fits s p xs
+  left-fits xs ys l f =
+      record {
+        few = omega (arith, l .same, f .few);
+        within = omega (arith, l .same, l .place, f .within, total-append xs ys);
+      }
 
-pub put1230-on : (i : ℕ) (xs ys : List Rec1230) (l : Lists1230) → put1230 i (xs ++ ys) l ≡ put1230 (i + length xs) ys (put1230 i xs l)
-unfolding put1230
-put1230-on i xs ys l = rw (parts-on signalOf1230 i xs ys (l .signals), parts-on biasOf1230 i xs ys (l .biases))
+  -- once it is put, the second part is left
+  pub left-put : (xs ys : List Field) {t : List ℕ} {q : ℕ} → Left s₀ p₀ fs₀ s p (xs ++ ys) → Did s p xs t q → Left s₀ p₀ fs₀ t q ys
+  left-put xs ys {t} {q} l d =
+      record {
+        same = ap length (d .left) ∙ length-put-all s p xs ∙ l .same;
+        place = omega (arith, l .place, d .end, total-append xs ys);
+        rest =
+            l .rest
+            ∙ put-append s p xs ys
+            ∙ ap₂ (λ (x : List ℕ) (n : ℕ). putAll x n ys) (sym (d .left)) (sym (d .end));
+      }
 
-pub put1230-front : (rs : List Rec1230) (gs : List ℕ) (zs : List ℤ) → length rs ≤ length gs → length zs ≡ length gs
-    → put1230 0 rs (lists1230 gs zs) ≡ lists1230 (onto (map signalOf1230 rs) gs) (onto (map biasOf1230 rs) zs)
-unfolding put1230
-put1230-front rs gs zs h e =
-    let k : length rs ≤ length zs = rw e h in
-    rw (parts-front signalOf1230 rs gs h, parts-front biasOf1230 rs zs k)
+  -- nothing is left
+  pub left-none : Left s₀ p₀ fs₀ s p [] → Did s₀ p₀ fs₀ s p
+  left-none l =
+      record {
+        end = omega (arith, l .place, total-none);
+        left = sym (l .rest ∙ put-none s p);
+      }
+
+-- ---- one field, as the code takes the answer
+
+-- the arm of a `let .. else` that an accepted write never takes
+not-end : (q : ℕ) → OneOf (1 ∷ 2 ∷ 3 ∷ 4 ∷ []) (tagOf the-type (End q)) → ⊥
+not-end q o = ⊎-elim (λ p. omega arith) (λ x. ⊎-elim (λ p. omega arith) (λ y. ⊎-elim (λ p. omega arith) (λ p. omega arith) y) x) o
+
+module _ (fitting : Bool) (v : ℕ) (s : List ℕ) (p w : ℕ) (f : Fits s p (bits w v ∷ [])) (low : 1 ≤ w) (high : w ≤ 64) (g : fitting ≡ true)
+    (r : Written) (t : List ℕ) (e : wrote (toldWritten r) t ≡ writeBy fitting v s p w) where
+  ended : (r ≡ End (p + w)) × (Did s p (bits w v ∷ []) t (p + w))
+  ended =
+      let o = only-wrote (writeBy fitting v s p w) e (sym (writes fitting v s p w (f .few) low high g (omega (arith, f .within, total-one w v)))) in
+      (o .0, record { end = omega (arith, total-one w v); left = o .1 ∙ sym (put-one s p w v) })
+
+  pub did-one : (q : ℕ) → r ≡ End q → Did s p (bits w v ∷ []) t q
+  did-one q n =
+      let b : End q ≡ End (p + w) = sym n ∙ ended .0 in
+      let d : p + w ≡ q = cc in
+      subst (λ (x : ℕ). Did s p (bits w v ∷ []) t x) d (ended .1)
+
+  pub did-else : (q : ℕ) → OneOf (1 ∷ 2 ∷ 3 ∷ 4 ∷ []) (tagOf the-type r) → Did s p (bits w v ∷ []) t q
+  did-else q o = absurd (not-end (p + w) (subst (λ (x : Written). OneOf (1 ∷ 2 ∷ 3 ∷ 4 ∷ []) (tagOf the-type x)) (ended .0) o))

@@ -1,18 +1,154 @@
--- Which case of `read1059` holds, as the code decides it. Assumes nothing.
-use mathlib.Core.Path.{_≡_, refl, sym, ap}
-use mathlib.Core.List.{List}
-use Prim.Native.Nat.{ℕ, _≤_, _<_}
+-- Reading the bias block of message 1059, as the code does: one bias, one satellite, and which case of `read1059` holds. Assumes nothing.
+use mathlib.Core.Path.{_≡_, refl, sym, ap, _∙_}
+use mathlib.Core.List.{List, [], _∷_}
+use mathlib.Core.Bool.{cond}
+use Prim.Native.Nat.{ℕ, _≤_, _<_, _+_, _*_}
+use native.Mathlib.Decide.{decLt}
+use native.Mathlib.Omega.{arith}
 use borrow.Author.Tests.{lt-ltb, le-ltb, eq-eqb, ne-eqb}
 use lib.IntN.{ℤ}
-use lib.ListN.{length}
-use Rattle.bits.specs.Told.{Told, Accepted, size, short}
-use Rattle.bits.specs.Field.{Reading, reading, readUnsigned}
+use lib.ListN.{length, set}
+use lib.Dec.{ltb}
+use Rattle.bits.specs.Told.{Told, Accepted, size, short, Refused, andThen}
+use Rattle.bits.specs.Field.{Reading, reading, readUnsigned, field, readTwos}
+use Rattle.bits.specs.Signed.{twosOf}
+use Rattle.bits.proofs.ReadLaws.{reads-value, reads-short}
 use Rattle.messages.specs.Reader.{many}
-use Rattle.messages.specs.Records.{Rec1059, Counted, counted}
-use Rattle.messages.specs.Read1059.{satelliteAt, block1059, Read1059, outcome1059, left1059, read1059}
-use Rattle.messages.specs.ReadSteps.{Lists1059, lists1059, put1059}
+use Rattle.messages.specs.Records.{Rec1059, Counted, counted, rec1059}
+use Rattle.messages.specs.Read1059.{satelliteAt, block1059, Read1059, outcome1059, left1059, read1059, biasAt}
+use Rattle.messages.specs.ReadSteps.{Lists1059, lists1059, put1059, counts, Stored}
 use Rattle.messages.proofs.CallLaws.{Call}
-use Rattle.messages.proofs.PutLaws.{put1059-front}
+use Rattle.messages.proofs.StoreLaws.{put1059-front}
+use Rattle.messages.proofs.PassLaws.{counts-short, counted-tells, stored-one}
+use Rattle.messages.proofs.ArmLaws.{value-within}
+use Rattle.messages.proofs.RunLaws.{Single, Run, many-run, run-fits, run-cut, run-tells}
+
+-- ---- one bias
+
+module _ (s : List ℕ) (a p : ℕ) where
+  pub bias-cut : readUnsigned s p 5 ≡ short p → biasAt s a p ≡ short p
+  unfolding biasAt
+  bias-cut e = rw e
+
+  pub bias-cut-2 : {g q : ℕ} → readUnsigned s p 5 ≡ Accepted (reading g q) → readTwos s q 14 ≡ short q → biasAt s a p ≡ short q
+  unfolding biasAt
+  bias-cut-2 e f = rw (e, f)
+
+  pub bias-read : {g q r : ℕ} {z : ℤ} → readUnsigned s p 5 ≡ Accepted (reading g q) → readTwos s q 14 ≡ Accepted (reading z r) → biasAt s a p ≡ Accepted (reading (rec1059 a g z ∷ []) r)
+  unfolding biasAt
+  bias-read e f = rw (e, f)
+
+  -- and its record is stored at place i
+  pub bias-stored : (i : ℕ) (sats gs : List ℕ) (zs : List ℤ) {g q r : ℕ} {z y : ℤ} → readUnsigned s p 5 ≡ Accepted (reading g q) → readTwos s q 14 ≡ Accepted (reading z r) → y ≡ z
+      → Stored put1059 i (biasAt s a p) (Accepted (counted (i + 1) r)) (lists1059 sats gs zs) (lists1059 (set sats i a) (set gs i g) (set zs i y))
+  unfolding put1059
+  bias-stored i sats gs zs {g} e f d =
+      stored-one put1059 (bias-read e f) (ap (λ (x : ℤ). lists1059 (set sats i a) (set gs i g) (set zs i x)) d)
+
+-- ---- the biases of a satellite: 19 bits each
+
+-- where a bias is cut short that starts at bit p: at its signal, or else behind it
+cutBias : List ℕ → ℕ → ℕ
+cutBias s p = cond (ltb (length s * 8) (p + 5)) p (p + 5)
+
+cut-signal : (s : List ℕ) (p : ℕ) → length s * 8 < p + 5 → cutBias s p ≡ p
+unfolding cutBias
+cut-signal s p h = rw (lt-ltb _ _ h)
+
+cut-behind : (s : List ℕ) (p : ℕ) → p + 5 ≤ length s * 8 → cutBias s p ≡ p + 5
+unfolding cutBias
+cut-behind s p h = rw (le-ltb _ _ h)
+
+module _ (s : List ℕ) (few : length s ≤ 1023) (a : ℕ) where
+  one-bias : Single 19 (length s * 8) (cutBias s) (biasAt s a)
+  one-bias =
+      record {
+        record-of = λ p. rec1059 a (field s p 5) (twosOf 14 (field s (p + 5) 14));
+        fits = fits;
+        cuts = λ p h. cuts p h (decLt (length s * 8) (p + 5));
+      }
+    where
+      fits : (p : ℕ) → p + 19 ≤ length s * 8 → biasAt s a p ≡ Accepted (reading (rec1059 a (field s p 5) (twosOf 14 (field s (p + 5) 14)) ∷ []) (p + 19))
+      fits p h =
+          let e : p + 5 + 14 ≡ p + 19 = omega arith in
+          bias-read s a p (reads-value (λ v. v) s p 5 few (omega arith) (omega arith) (omega arith)) (reads-value (twosOf 14) s (p + 5) 14 few (omega arith) (omega arith) (omega arith))
+          ∙ ap (λ (q : ℕ). Accepted (reading (rec1059 a (field s p 5) (twosOf 14 (field s (p + 5) 14)) ∷ []) q)) e
+
+      cuts : (p : ℕ) → length s * 8 < p + 19 → Dec (length s * 8 < p + 5) → biasAt s a p ≡ short (cutBias s p)
+      cuts p h (yes l) =
+          bias-cut s a p (reads-short (λ v. v) s p 5 few (omega arith) (omega arith) l) ∙ ap (λ (q : ℕ). short q) (sym (cut-signal s p l))
+      cuts p h (no l) =
+          bias-cut-2 s a p (reads-value (λ v. v) s p 5 few (omega arith) (omega arith) (omega arith)) (reads-short (twosOf 14) s (p + 5) 14 few (omega arith) (omega arith) (omega arith))
+          ∙ ap (λ (q : ℕ). short q) (sym (cut-behind s p (omega arith)))
+
+  biases-run : (n : ℕ) → Run 19 (length s * 8) (cutBias s) n (many (biasAt s a) n)
+  biases-run n = many-run 19 (length s * 8) (cutBias s) one-bias n
+
+  module _ (i n p : ℕ) where
+    -- all n are there
+    pub biases-fit : p + n * 19 ≤ length s * 8 → Accepted (counted (i + n) (p + n * 19)) ≡ counts i (many (biasAt s a) n p)
+    biases-fit h = run-fits 19 (length s * 8) (cutBias s) (biases-run n) i p h
+
+    -- m are there, and the signal of the next is not
+    pub no-signal : (m : ℕ) → m < n → p + m * 19 ≤ length s * 8 → length s * 8 < p + m * 19 + 5 → short (p + m * 19) ≡ counts i (many (biasAt s a) n p)
+    no-signal m l h c =
+        counts-short i (p + m * 19)
+        (run-cut 19 (length s * 8) (cutBias s) (biases-run n) m p l h (omega arith) ∙ ap (λ (q : ℕ). short q) (cut-signal s (p + m * 19) c))
+
+    -- m are there and the signal of the next, but not its bias
+    pub no-bias : (m : ℕ) → m < n → p + m * 19 + 5 ≤ length s * 8 → length s * 8 < p + m * 19 + 19 → short (p + m * 19 + 5) ≡ counts i (many (biasAt s a) n p)
+    no-bias m l h c =
+        counts-short i (p + m * 19 + 5)
+        (run-cut 19 (length s * 8) (cutBias s) (biases-run n) m p l (omega arith) c ∙ ap (λ (q : ℕ). short q) (cut-behind s (p + m * 19) h))
+
+  -- what accepted biases tell
+  pub biases-tell : (n p : ℕ) → p ≤ length s * 8 → {r : Reading (List Rec1059)} → many (biasAt s a) n p ≡ Accepted r
+      → (length (r .value) ≡ n) × (r .next ≡ p + n * 19) × (r .next ≤ length s * 8)
+  biases-tell n p h e = run-tells 19 (length s * 8) (cutBias s) (biases-run n) p h e
+
+-- ---- one satellite
+
+module _ (s : List ℕ) (p : ℕ) where
+  pub satellite-cut : readUnsigned s p 6 ≡ short p → satelliteAt s p ≡ short p
+  unfolding satelliteAt
+  satellite-cut e = rw e
+
+  module _ {a q : ℕ} (e : readUnsigned s p 6 ≡ Accepted (reading a q)) where
+    pub satellite-cut-2 : readUnsigned s q 5 ≡ short q → satelliteAt s p ≡ short q
+    unfolding satelliteAt
+    satellite-cut-2 f = rw (e, f)
+
+    pub satellite-read : {n r : ℕ} → readUnsigned s q 5 ≡ Accepted (reading n r) → satelliteAt s p ≡ many (biasAt s a) n r
+    unfolding satelliteAt
+    satellite-read f = rw (e, f)
+
+-- ---- a satellite has at most 31 biases, and 11 bits beside them
+
+pub record Sized (s : List ℕ) (p : ℕ) (r : Reading (List Rec1059)) : Type 0 where
+  pub few : length (r .value) ≤ 31
+  pub end : r .next ≡ p + 11 + length (r .value) * 19
+  pub within : r .next ≤ length s * 8
+
+pub satellite-tells : (s : List ℕ) (p : ℕ) → length s ≤ 1023 → {r : Reading (List Rec1059)} → satelliteAt s p ≡ Accepted r → Sized s p r
+unfolding satelliteAt
+satellite-tells s p few {r} e = go (readUnsigned s p 6) refl e
+  where
+    biases : (a q : ℕ) → q ≡ p + 6 → (t : Told (Reading ℕ)) → readUnsigned s q 5 ≡ t → andThen t (λ n. many (biasAt s a) (n .value) (n .next)) ≡ Accepted r → Sized s p r
+    biases a q d (Refused m carried) f e = let z : _≡_ {A = ℕ} 0 1 = cc in absurd (omega arith)
+    biases a q d (Accepted n) f e =
+        let w = value-within s q 5 f in
+        let t = biases-tell s few a (n .value) (n .next) (omega arith) e in
+        record { few = omega arith; end = omega arith; within = t .2 }
+
+    go : (t : Told (Reading ℕ)) → readUnsigned s p 6 ≡ t → andThen t (λ a. andThen (readUnsigned s (a .next) 5) (λ n. many (biasAt s (a .value)) (n .value) (n .next))) ≡ Accepted r → Sized s p r
+    go (Refused m carried) f e = let z : _≡_ {A = ℕ} 0 1 = cc in absurd (omega arith)
+    go (Accepted a) f e = biases (a .value) (a .next) (value-within s p 6 f .1) (readUnsigned s (a .next) 5) refl e
+
+-- so a count grows by at most 31
+pub few-more : (s : List ℕ) (p : ℕ) → length s ≤ 1023 → (i : ℕ) {j q : ℕ} → Accepted (counted j q) ≡ counts i (satelliteAt s p) → j ≤ i + 31
+few-more s p few i e =
+    let t = counted-tells i (satelliteAt s p) e in
+    omega (arith, t .count, satellite-tells s p few (t .is) .few)
 
 -- ---- the block, by its satellite count
 

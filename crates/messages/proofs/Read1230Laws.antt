@@ -1,17 +1,163 @@
--- Which case of `read1230` holds, as the code decides it. Assumes nothing.
-use mathlib.Core.Path.{_≡_, refl, sym, ap}
-use mathlib.Core.List.{List}
-use Prim.Native.Nat.{ℕ, _≤_, _<_}
+-- Reading the bias block of message 1230, as the code does: its mask, its biases, and which case of `read1230` holds. Assumes nothing.
+use mathlib.Core.Path.{_≡_, refl, sym, ap, ap₂, _∙_}
+use mathlib.Core.List.{List, [], _∷_}
+use Prim.Native.Nat.{ℕ, _≤_, _<_, zero, suc, _+_, _-_, _*_, _/_, _%_, _^_}
+use native.Mathlib.Nat.{div-one}
+use native.Mathlib.Decide.{ℕ-discrete}
+use native.Mathlib.Omega.{arith}
 use borrow.Author.Tests.{lt-ltb, le-ltb, eq-eqb, ne-eqb}
 use lib.IntN.{ℤ}
-use lib.ListN.{length}
-use Rattle.bits.specs.Told.{Told, Accepted, size, short}
-use Rattle.bits.specs.Field.{Reading, reading, readUnsigned}
-use Rattle.messages.specs.Records.{Rec1230, Counted, counted}
+use lib.ListN.{length, set, drop, getD}
+use lib.Dec.{eqb}
+use Rattle.bits.specs.Told.{Told, Accepted, size, short, Refused, andThen}
+use Rattle.bits.specs.Field.{Reading, reading, readUnsigned, field, readTwos}
+use Rattle.bits.specs.Signed.{twosOf}
+use Rattle.bits.proofs.ReadLaws.{reads-value, reads-short}
+use Rattle.messages.specs.Records.{Rec1230, Counted, counted, rec1230}
 use Rattle.messages.specs.Read1230.{maskSignals, masked, biasesAt, block1230, Read1230, outcome1230, left1230, read1230}
-use Rattle.messages.specs.ReadSteps.{Lists1230, lists1230, put1230}
+use Rattle.messages.specs.ReadSteps.{Lists1230, lists1230, put1230, counts, Placed, Stored}
+use Rattle.messages.specs.Reader.{before}
+use Rattle.messages.specs.Writer.{keep}
 use Rattle.messages.proofs.CallLaws.{Call}
-use Rattle.messages.proofs.PutLaws.{put1230-front}
+use Rattle.messages.proofs.StoreLaws.{put1230-front, put1230-on, Doing, left-as, step-placed, step-read, step-stored}
+use Rattle.messages.proofs.ArmLaws.{IsRefused}
+use Rattle.messages.proofs.PassLaws.{chain, counts-short, stored-one}
+use Rattle.messages.proofs.RunLaws.{Single, Run, none, more, run-fits, run-cut, run-tells}
+
+-- ---- the mask
+
+-- a signal is kept or dropped by its bit
+keeps : (b g : ℕ) (gs : List ℕ) → b % 2 ≡ 1 → keep (eqb (b % 2) 1) g gs ≡ g ∷ gs
+keeps b g gs e = rw (eq-eqb (b % 2) 1 e)
+
+drops : (b g : ℕ) (gs : List ℕ) → b % 2 ≡ 0 → keep (eqb (b % 2) 1) g gs ≡ gs
+drops b g gs e =
+    let n : (b % 2 ≡ 1 → ⊥) = λ d. omega arith in
+    rw (ne-eqb (b % 2) 1 n)
+
+length-keep : (b g : ℕ) (gs : List ℕ) → length (keep (eqb (b % 2) 1) g gs) ≡ b % 2 + length gs
+length-keep b g gs = go (ℕ-discrete (b % 2) 1)
+  where
+    go : Dec (b % 2 ≡ 1) → length (keep (eqb (b % 2) 1) g gs) ≡ b % 2 + length gs
+    go (yes e) = ap length (keeps b g gs e) ∙ omega arith
+    go (no n) = let e : b % 2 ≡ 0 = omega arith in ap length (drops b g gs e) ∙ omega arith
+
+-- how many signals a mask has
+pub masked-length : (m : ℕ) → m / 8 % 2 + m / 4 % 2 + m / 2 % 2 + m % 2 ≡ length (masked maskSignals m)
+unfolding masked
+masked-length m =
+    let a = length-keep (m / 8) 2 (masked (3 ∷ 8 ∷ 9 ∷ []) m) in
+    let b = length-keep (m / 4) 3 (masked (8 ∷ 9 ∷ []) m) in
+    let c = length-keep (m / 2) 8 (masked (9 ∷ []) m) in
+    let d = length-keep (m / 1) 9 (masked [] m) in
+    omega (arith, div-one m)
+
+-- from signal k on
+masked-step : (k m : ℕ) → k < 4 → masked (drop k maskSignals) m ≡ keep (eqb (m / 2 ^ (3 - k) % 2) 1) (getD maskSignals k 0) (masked (drop (k + 1) maskSignals) m)
+unfolding masked
+masked-step zero m h = refl
+masked-step (suc zero) m h = refl
+masked-step (suc (suc zero)) m h = refl
+masked-step (suc (suc (suc zero))) m h = refl
+masked-step (suc (suc (suc (suc k)))) m h = absurd (omega arith)
+
+masked-has : (k m : ℕ) → k < 4 → (m / 2 ^ (3 - k) % 2 ≡ 0 → ⊥) → masked (drop k maskSignals) m ≡ getD maskSignals k 0 ∷ masked (drop (k + 1) maskSignals) m
+masked-has k m h n = masked-step k m h ∙ keeps (m / 2 ^ (3 - k)) (getD maskSignals k 0) (masked (drop (k + 1) maskSignals) m) (omega arith)
+
+pub masked-lacks : (s : List ℕ) (k m p : ℕ) → k < 4 → m / 2 ^ (3 - k) % 2 ≡ 0 → biasesAt s (masked (drop k maskSignals) m) p ≡ biasesAt s (masked (drop (k + 1) maskSignals) m) p
+masked-lacks s k m p h e =
+    ap (λ (gs : List ℕ). biasesAt s gs p)
+    (masked-step k m h ∙ drops (m / 2 ^ (3 - k)) (getD maskSignals k 0) (masked (drop (k + 1) maskSignals) m) e)
+
+pub masked-none : (s : List ℕ) (k m p : ℕ) → 4 ≤ k → k ≤ 4 → biasesAt s (masked (drop k maskSignals) m) p ≡ Accepted (reading [] p)
+unfolding masked biasesAt
+masked-none s k m p h l = let e : k ≡ 4 = omega arith in rw e
+
+-- ---- one bias, and the others behind it
+
+module _ (s : List ℕ) (g p : ℕ) where
+  pub bias-cut : readTwos s p 16 ≡ short p → biasesAt s (g ∷ []) p ≡ short p
+  unfolding biasesAt
+  bias-cut e = rw e
+
+  pub bias-read : {z : ℤ} {q : ℕ} → readTwos s p 16 ≡ Accepted (reading z q) → biasesAt s (g ∷ []) p ≡ Accepted (reading (rec1230 g z ∷ []) q)
+  unfolding biasesAt
+  bias-read e = rw e
+
+  -- and its record is stored at place i
+  pub bias-stored : (i : ℕ) (gs : List ℕ) (zs : List ℤ) {q : ℕ} {z y : ℤ} → readTwos s p 16 ≡ Accepted (reading z q) → y ≡ z
+      → Stored put1230 i (biasesAt s (g ∷ []) p) (Accepted (counted (i + 1) q)) (lists1230 gs zs) (lists1230 (set gs i g) (set zs i y))
+  unfolding put1230
+  bias-stored i gs zs e d = stored-one put1230 (bias-read e) (ap (λ (x : ℤ). lists1230 (set gs i g) (set zs i x)) d)
+
+  pub biases-on : (gs : List ℕ) → biasesAt s (g ∷ gs) p ≡ chain (biasesAt s (g ∷ []) p) (biasesAt s gs)
+  unfolding biasesAt
+  biases-on gs = go (readTwos s p 16)
+    where
+      go : (t : Told (Reading ℤ))
+          → andThen t (λ z. before (rec1230 g (z .value) ∷ []) (biasesAt s gs (z .next)))
+          ≡ chain (andThen t (λ z. before (rec1230 g (z .value) ∷ []) (Accepted (reading [] (z .next))))) (biasesAt s gs)
+      go (Accepted z) = refl
+      go (Refused n carried) = refl
+
+-- ---- the biases: 16 bits each
+
+module _ (s : List ℕ) (few : length s ≤ 1023) where
+  one-bias : (g : ℕ) → Single 16 (length s * 8) (λ p. p) (biasesAt s (g ∷ []))
+  one-bias g =
+      record {
+        record-of = λ p. rec1230 g (twosOf 16 (field s p 16));
+        fits = λ p h. bias-read s g p (reads-value (twosOf 16) s p 16 few (omega arith) (omega arith) h);
+        cuts = λ p h. bias-cut s g p (reads-short (twosOf 16) s p 16 few (omega arith) (omega arith) h);
+      }
+
+  biases-run : (gs : List ℕ) → Run 16 (length s * 8) (λ p. p) (length gs) (biasesAt s gs)
+  unfolding biasesAt
+  biases-run [] = none (λ p. refl)
+  biases-run (g ∷ gs) = more (one-bias g) (λ p. biases-on s g p gs) (biases-run gs)
+
+  module _ (gs : List ℕ) (n p : ℕ) (e : length gs ≡ n) where
+    -- all n are there
+    pub biases-fit : p + n * 16 ≤ length s * 8 → Accepted (counted n (p + n * 16)) ≡ counts 0 (biasesAt s gs p)
+    biases-fit h =
+        let a : n ≡ 0 + length gs = omega arith in
+        let b : p + n * 16 ≡ p + length gs * 16 = omega arith in
+        ap₂ (λ (x y : ℕ). Accepted (counted x y)) a b ∙ run-fits 16 (length s * 8) (λ p. p) (biases-run gs) 0 p (omega arith)
+
+    -- m are there, and the next is not
+    pub no-bias : (m : ℕ) → m < n → p + m * 16 ≤ length s * 8 → length s * 8 < p + m * 16 + 16 → short (p + m * 16) ≡ counts 0 (biasesAt s gs p)
+    no-bias m l h c =
+        counts-short 0 (p + m * 16) (run-cut 16 (length s * 8) (λ p. p) (biases-run gs) m p (omega arith) h c)
+
+  pub biases-tell : (gs : List ℕ) (p : ℕ) → p ≤ length s * 8 → {r : Reading (List Rec1230)} → biasesAt s gs p ≡ Accepted r
+      → (length (r .value) ≡ length gs) × (r .next ≡ p + length gs * 16) × (r .next ≤ length s * 8)
+  biases-tell gs p h e = run-tells 16 (length s * 8) (λ p. p) (biases-run gs) p h e
+
+-- ---- a turn of the second pass at signal k, whose bit is set; l is the code's list of the signals
+
+module _ (s l : List ℕ) (k m p : ℕ) (is : l ≡ maskSignals) (h : k < 4) (bit : m / 2 ^ (3 - k) % 2 ≡ 0 → ⊥) where
+  later : ℕ → Told (Reading (List Rec1230))
+  later q = biasesAt s (masked (drop (k + 1) maskSignals) m) q
+
+  signal-left : biasesAt s (masked (drop k maskSignals) m) p ≡ chain (biasesAt s (getD l k 0 ∷ []) p) later
+  unfolding later
+  signal-left =
+      ap (λ (gs : List ℕ). biasesAt s gs p) (masked-has k m h bit)
+      ∙ biases-on s (getD maskSignals k 0) p (masked (drop (k + 1) maskSignals) m)
+      ∙ ap (λ (gs : List ℕ). chain (biasesAt s (getD gs k 0 ∷ []) p) later) (sym is)
+
+  module _ {first n : ℕ} {whole : Told (Reading (List Rec1230))} {old : Lists1230} (i : ℕ) {now : Lists1230}
+      (d : Doing put1230 first n whole old i (biasesAt s (masked (drop k maskSignals) m) p) now) where
+    pub signal-placed : Placed i (biasesAt s (getD l k 0 ∷ []) p) n
+    signal-placed = step-placed put1230 i (biasesAt s (getD l k 0 ∷ []) p) later (left-as put1230 d signal-left)
+
+    pub signal-read : {answer : Told Counted} → IsRefused answer → answer ≡ counts i (biasesAt s (getD l k 0 ∷ []) p) → ⊥
+    signal-read r e = step-read put1230 i (biasesAt s (getD l k 0 ∷ []) p) later (left-as put1230 d signal-left) r e
+
+    pub signal-stored : {answer : Told Counted} {j q : ℕ} {new : Lists1230} → Stored put1230 i (biasesAt s (getD l k 0 ∷ []) p) answer now new → answer ≡ Accepted (counted j q)
+        → Doing put1230 first n whole old j (biasesAt s (masked (drop (k + 1) maskSignals) m) q) new
+    unfolding later
+    signal-stored w e = step-stored put1230 i (biasesAt s (getD l k 0 ∷ []) p) later (left-as put1230 d signal-left) put1230-on w e
 
 -- ---- the block, by its mask
 

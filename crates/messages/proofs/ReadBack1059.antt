@@ -22,9 +22,8 @@ use Rattle.messages.specs.InOrder.{recordsFrom, inOrder1059}
 use Rattle.messages.proofs.AcceptLaws.{field-then}
 use Rattle.messages.proofs.ManyLaws.{many-none, many-more}
 use Rattle.messages.proofs.Biases1059.{Own, biases-read}
-use Rattle.messages.proofs.Accepts1059.{Writable, records-written, records-accepted, call-written, call-accepted}
-use Rattle.messages.proofs.WrittenRun.{reads-run}
-use Rattle.messages.proofs.FitLaws.{of-writable, fields-fit}
+use Rattle.messages.proofs.Accepts1059.{Writable, records-written, records-accepted, call-written, call-accepted, of-writable, fields-fit}
+use Rattle.messages.proofs.WriterLaws.{reads-run}
 
 module _ (t : List ℕ) (few : length t ≤ 1023) where
   -- a satellite that stands there is read

@@ -20,8 +20,8 @@ use Rattle.messages.specs.Write1230.{ofSignal, maskOf, biasFields16, inM
 use Rattle.messages.specs.InOrder.{inOrder1230}
 use Rattle.messages.proofs.AcceptLaws.{field-then}
 use Rattle.messages.proofs.Biases1230.{Fits, biases-read}
-use Rattle.messages.proofs.MaskOrderLaws.{mask-lt, order-signals, order-biases, order-fits}
-use Rattle.messages.proofs.WrittenRun.{reads-run}
+use Rattle.messages.proofs.Mask1230Laws.{mask-lt, order-signals, order-biases, order-fits}
+use Rattle.messages.proofs.WriterLaws.{reads-run}
 use Rattle.messages.proofs.RepeatLaws.{once}
 use Rattle.messages.proofs.Accepts1230.{records-written, records-accepted, call-written, call-accepted}
 

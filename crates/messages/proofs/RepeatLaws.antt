@@ -13,7 +13,7 @@ use Rattle.messages.specs.Records.{Rec1230, rec1230, signalOf1230}
 use Rattle.messages.specs.Writer.{fine, keep}
 use Rattle.messages.specs.Write1230.{isIn, firstRepeat, ofSignal}
 use Rattle.messages.proofs.AcceptLaws.{not-refused}
-use Rattle.messages.proofs.MaskedLaws.{Apart, Different}
+use Rattle.messages.proofs.Mask1230Laws.{Apart, Different}
 
 -- different signals do not repeat
 further : (g : ℕ) (seen hs : List ℕ) → Every (λ h. isIn h seen ≡ false) hs → Apart g hs → Every (λ h. isIn h (g ∷ seen) ≡ false) hs

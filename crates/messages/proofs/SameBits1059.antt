@@ -16,9 +16,9 @@ use Rattle.messages.specs.Write1059.{fields1059, writeRecords1059, write
 use Rattle.messages.specs.Satellites1059.{Sat, satellites1059, recordsOf, Regular}
 use Rattle.messages.proofs.EveryLaws.{every-join, every-split}
 use Rattle.messages.proofs.Biases1059.{Own}
-use Rattle.messages.proofs.SatellitesStand.{Sound, satFields, block-stands}
+use Rattle.messages.proofs.Satellites1059Laws.{Sound, satFields, block-stands}
 use Rattle.messages.proofs.ExtentLaws.{taken}
-use Rattle.messages.proofs.GroupLaws.{laid}
+use Rattle.messages.proofs.AscendingLaws.{laid}
 use Rattle.messages.proofs.Accepts1059.{Writable, Writes, records-written, call-written}
 
 -- the columns of records are records again

@@ -18,7 +18,7 @@ use Rattle.messages.specs.Write1230.{isIn, biasFields16, fields1230, wri
 use Rattle.messages.proofs.EveryLaws.{every-true, every-unmap}
 use Rattle.messages.proofs.AcceptLaws.{field-accepted}
 use Rattle.messages.proofs.Biases1230.{biases-stand}
-use Rattle.messages.proofs.MaskedLaws.{Different, every-masked, masked-different, named}
+use Rattle.messages.proofs.Mask1230Laws.{Different, every-masked, masked-different, named}
 use Rattle.messages.proofs.ExtentLaws.{suffices-1230}
 use Rattle.messages.proofs.RepeatLaws.{no-repeat}
 use Rattle.messages.proofs.Accepts1230.{Known, Writes, known-fine, records-written, call-written}

@@ -15,7 +15,7 @@ use Rattle.messages.specs.Records.{Rec1059, rec1059, records1059}
 use Rattle.messages.specs.Writer.{keep}
 use Rattle.messages.specs.Write1059.{ofSatellite, biasFields, satelliteFields}
 use Rattle.messages.specs.Steps1059.{nextOf, countOf}
-use Rattle.messages.proofs.LeftLaws.{Left, left-all, left-as}
+use Rattle.messages.proofs.PutLaws.{Left, left-all, left-as}
 use Rattle.messages.proofs.RecordLaws.{from1059, next1059, end1059}
 use Rattle.messages.proofs.Fields1059Laws.{fields-some, fields-none}
 use Rattle.messages.proofs.LinkLaws.{getD-any, next-hit, next-miss, next-end}

@@ -1,15 +1,80 @@
--- The second pass, turn by turn: what is stored so far, and what is left, are the whole. Assumes nothing.
+-- Storing records in lent lists of their parts, and the second pass turn by turn: what is stored so far, and what is left, are the whole. Assumes nothing.
 use mathlib.Core.Path.{_≡_, refl, sym, ap, _∙_}
-use mathlib.Core.List.{List, [], _++_}
-use Prim.Native.Nat.{ℕ, _+_, _-_, _≤_, _<_}
-use lib.ListN.{length}
+use mathlib.Core.List.{List, [], _∷_, _++_, map}
+use Prim.Native.Nat.{ℕ, suc, _+_, _≤_, _-_, _<_}
+use native.Mathlib.Nat.{add-zero, zero-add, add-suc, suc-add}
+use lib.IntN.{ℤ}
+use lib.ListN.{length, set, length-map}
+use lib.Seq.{sets, sets-eq}
+use Rattle.bits.specs.Onto.{onto}
 use Rattle.bits.specs.Told.{Told, Accepted}
 use Rattle.bits.specs.Field.{Reading, reading}
+use Rattle.bits.proofs.OntoLaws.{over-zero}
+use Rattle.messages.specs.Records.{Rec1059, satelliteOf, signalOf1059, biasOf1059, Rec1230, signalOf1230, biasOf1230, Counted, counted}
+use Rattle.messages.specs.ReadSteps.{Lists1059, lists1059, put1059, Lists1230, lists1230, put1230, counts, found, Placed, Stored}
 use Rattle.messages.specs.Reader.{many}
-use Rattle.messages.specs.Records.{Counted, counted}
-use Rattle.messages.specs.ReadSteps.{counts, found, Placed, Stored}
 use Rattle.messages.proofs.ArmLaws.{IsRefused}
 use Rattle.messages.proofs.PassLaws.{chain, counts-none, counts-on, placed-on, placed-first, not-stopped, stored-on, stored-answer, many-left, many-none}
+
+-- ---- one list
+
+sets-on : {B : Type 0} (l : List B) (i : ℕ) (xs ys : List B) → sets l i (xs ++ ys) ≡ sets (sets l i xs) (i + length xs) ys
+sets-on l i [] ys = ap (λ (n : ℕ). sets l n ys) (sym (add-zero i))
+sets-on l i (x ∷ xs) ys =
+    sets-on (set l i x) (suc i) xs ys
+    ∙ ap (λ (n : ℕ). sets (sets (set l i x) (suc i) xs) n ys) (suc-add i (length xs) ∙ sym (add-suc i (length xs)))
+
+module _ {A B : Type 0} (part : A → B) where
+  map-on : (xs ys : List A) → map part (xs ++ ys) ≡ map part xs ++ map part ys
+  map-on [] ys = refl
+  map-on (x ∷ xs) ys = ap (λ (l : List B). part x ∷ l) (map-on xs ys)
+
+  parts-on : (i : ℕ) (xs ys : List A) (l : List B) → sets l i (map part (xs ++ ys)) ≡ sets (sets l i (map part xs)) (i + length xs) (map part ys)
+  parts-on i xs ys l =
+      ap (sets l i) (map-on xs ys)
+      ∙ sets-on l i (map part xs) (map part ys)
+      ∙ ap (λ (n : ℕ). sets (sets l i (map part xs)) (i + n) (map part ys)) (length-map xs part)
+
+  -- stored from the first place on, records stand over the front
+  parts-front : (xs : List A) (l : List B) → length xs ≤ length l → sets l 0 (map part xs) ≡ onto (map part xs) l
+  parts-front xs l h = sets-eq (map part xs) l 0 (rw (zero-add, length-map) h) ∙ over-zero (map part xs) l
+
+-- ---- the lists of message 1059
+
+pub put1059-none : (i : ℕ) (l : Lists1059) → put1059 i [] l ≡ l
+unfolding put1059
+put1059-none i l = refl
+
+pub put1059-on : (i : ℕ) (xs ys : List Rec1059) (l : Lists1059) → put1059 i (xs ++ ys) l ≡ put1059 (i + length xs) ys (put1059 i xs l)
+unfolding put1059
+put1059-on i xs ys l = rw (parts-on satelliteOf i xs ys (l .satellites), parts-on signalOf1059 i xs ys (l .signals), parts-on biasOf1059 i xs ys (l .biases))
+
+pub put1059-front : (rs : List Rec1059) (sats gs : List ℕ) (zs : List ℤ) → length rs ≤ length sats → length gs ≡ length sats → length zs ≡ length sats
+    → put1059 0 rs (lists1059 sats gs zs) ≡ lists1059 (onto (map satelliteOf rs) sats) (onto (map signalOf1059 rs) gs) (onto (map biasOf1059 rs) zs)
+unfolding put1059
+put1059-front rs sats gs zs h d e =
+    let j : length rs ≤ length gs = rw d h in
+    let k : length rs ≤ length zs = rw e h in
+    rw (parts-front satelliteOf rs sats h, parts-front signalOf1059 rs gs j, parts-front biasOf1059 rs zs k)
+
+-- ---- the lists of message 1230
+
+pub put1230-none : (i : ℕ) (l : Lists1230) → put1230 i [] l ≡ l
+unfolding put1230
+put1230-none i l = refl
+
+pub put1230-on : (i : ℕ) (xs ys : List Rec1230) (l : Lists1230) → put1230 i (xs ++ ys) l ≡ put1230 (i + length xs) ys (put1230 i xs l)
+unfolding put1230
+put1230-on i xs ys l = rw (parts-on signalOf1230 i xs ys (l .signals), parts-on biasOf1230 i xs ys (l .biases))
+
+pub put1230-front : (rs : List Rec1230) (gs : List ℕ) (zs : List ℤ) → length rs ≤ length gs → length zs ≡ length gs
+    → put1230 0 rs (lists1230 gs zs) ≡ lists1230 (onto (map signalOf1230 rs) gs) (onto (map biasOf1230 rs) zs)
+unfolding put1230
+put1230-front rs gs zs h e =
+    let k : length rs ≤ length zs = rw e h in
+    rw (parts-front signalOf1230 rs gs h, parts-front biasOf1230 rs zs k)
+
+-- ---- the second pass
 
 module _ {A S : Type 0} (put : ℕ → List A → S → S) where
   -- of `whole`, which goes into lists of n places from place `first` on, `rest` is left and goes there from place i on

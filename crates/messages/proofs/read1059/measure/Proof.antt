@@ -9,7 +9,7 @@ use Rattle.messages.specs.Read1059.{satelliteAt}
 use Rattle.messages.specs.Answers.{toldRead}
 use Rattle.messages.proofs.ArmLaws.{read-refused}
 use Rattle.messages.proofs.PassLaws.{counts-none, many-all, many-none, many-counts-on, many-counts-stop}
-use Rattle.messages.proofs.Laws1059.{few-more}
+use Rattle.messages.proofs.Read1059Laws.{few-more}
 use Rattle.messages.proofs.read1059.measure.Statement.{statement}
 use Rattle.messages.proofs.read1059.measure.Tie as tie
 

@@ -1,6 +1,6 @@
 -- Each bias has 19 bits, so what fits and where it is cut short follow from the bits that are left. Assumes nothing.
 use native.Mathlib.Omega.{arith}
-use Rattle.messages.proofs.Laws1059.{biases-fit, no-signal, no-bias}
+use Rattle.messages.proofs.Read1059Laws.{biases-fit, no-signal, no-bias}
 use borrow.Author.Needs.{needs}
 use Rattle.messages.proofs.read1059.measure_biases.Statement.{statement}
 use Rattle.messages.proofs.read1059.measure_biases.Tie as tie

@@ -5,7 +5,7 @@ use Rattle.bits.specs.Answers.{toldUnsigned}
 use Rattle.messages.specs.ReadSteps.{counts}
 use Rattle.messages.proofs.ArmLaws.{unsigned-cut, value-within}
 use Rattle.messages.proofs.PassLaws.{counts-short}
-use Rattle.messages.proofs.Laws1059.{satellite-cut, satellite-cut-2, satellite-read}
+use Rattle.messages.proofs.Read1059Laws.{satellite-cut, satellite-cut-2, satellite-read}
 use borrow.Author.Needs.{needs}
 use Rattle.messages.proofs.read1059.measure_satellite.Statement.{statement}
 use Rattle.messages.proofs.read1059.measure_satellite.Tie as tie

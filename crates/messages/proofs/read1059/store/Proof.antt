@@ -10,8 +10,7 @@ use Rattle.messages.specs.Read1059.{satelliteAt}
 use Rattle.messages.specs.Answers.{toldRead}
 use Rattle.messages.proofs.ArmLaws.{read-refused}
 use Rattle.messages.proofs.PassLaws.{many-all}
-use Rattle.messages.proofs.StoreLaws.{Doing, begun, left-as, turn-placed, turn-read, turn-stored, turns-done}
-use Rattle.messages.proofs.PutLaws.{put1059-none, put1059-on}
+use Rattle.messages.proofs.StoreLaws.{Doing, begun, left-as, turn-placed, turn-read, turn-stored, turns-done, put1059-none, put1059-on}
 use Rattle.messages.proofs.read1059.store.Statement.{statement}
 use Rattle.messages.proofs.read1059.store.Tie as tie
 

@@ -4,10 +4,10 @@ use native.Mathlib.Omega.{arith}
 use Rattle.bits.specs.Answers.{toldUnsigned, toldSigned}
 use Rattle.messages.specs.ReadSteps.{put1059}
 use Rattle.messages.proofs.ArmLaws.{unsigned-cut, twos-cut, value-within}
-use Rattle.messages.proofs.BiasLaws.{bias-narrow}
+use Rattle.messages.proofs.I16Laws.{bias-narrow}
 use Rattle.messages.proofs.PassLaws.{placed-one, stored-short}
-use Rattle.messages.proofs.PutLaws.{put1059-none}
-use Rattle.messages.proofs.Laws1059.{bias-cut, bias-cut-2, bias-read, bias-stored}
+use Rattle.messages.proofs.StoreLaws.{put1059-none}
+use Rattle.messages.proofs.Read1059Laws.{bias-cut, bias-cut-2, bias-read, bias-stored}
 use borrow.Author.Needs.{needs}
 use Rattle.messages.proofs.read1059.store_bias.Statement.{statement}
 use Rattle.messages.proofs.read1059.store_bias.Tie as tie

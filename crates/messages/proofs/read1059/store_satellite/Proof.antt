@@ -5,8 +5,8 @@ use Rattle.bits.specs.Answers.{toldUnsigned}
 use Rattle.messages.specs.ReadSteps.{put1059}
 use Rattle.messages.proofs.ArmLaws.{unsigned-cut, value-within}
 use Rattle.messages.proofs.PassLaws.{placed-as, stored-short, stored-as}
-use Rattle.messages.proofs.PutLaws.{put1059-none}
-use Rattle.messages.proofs.Laws1059.{satellite-cut, satellite-cut-2, satellite-read}
+use Rattle.messages.proofs.StoreLaws.{put1059-none}
+use Rattle.messages.proofs.Read1059Laws.{satellite-cut, satellite-cut-2, satellite-read}
 use borrow.Author.Needs.{needs}
 use Rattle.messages.proofs.read1059.store_satellite.Statement.{statement}
 use Rattle.messages.proofs.read1059.store_satellite.Tie as tie

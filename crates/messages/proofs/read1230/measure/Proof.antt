@@ -1,6 +1,6 @@
 -- Each bias has 16 bits, so what fits and where it is cut short follow from the bits that are left. Assumes nothing.
 use native.Mathlib.Omega.{arith}
-use Rattle.messages.proofs.Laws1230.{biases-fit, no-bias}
+use Rattle.messages.proofs.Read1230Laws.{biases-fit, no-bias}
 use borrow.Author.Needs.{needs}
 use Rattle.messages.proofs.read1230.measure.Statement.{statement}
 use Rattle.messages.proofs.read1230.measure.Tie as tie

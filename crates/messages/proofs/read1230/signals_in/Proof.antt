@@ -1,6 +1,6 @@
 -- Each set bit of the mask is one signal. Assumes nothing.
 use native.Mathlib.Omega.{arith}
-use Rattle.messages.proofs.Laws1230.{masked-length}
+use Rattle.messages.proofs.Read1230Laws.{masked-length}
 use borrow.Author.Needs.{needs}
 use Rattle.messages.proofs.read1230.signals_in.Statement.{statement}
 use Rattle.messages.proofs.read1230.signals_in.Tie as tie

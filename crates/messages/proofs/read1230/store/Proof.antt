@@ -8,9 +8,8 @@ use Rattle.messages.specs.Read1230.{maskSignals, masked, biasesAt}
 use Rattle.messages.specs.ReadSteps.{lists1230, put1230}
 use Rattle.messages.specs.Answers.{toldRead}
 use Rattle.messages.proofs.ArmLaws.{read-refused}
-use Rattle.messages.proofs.StoreLaws.{Doing, begun, left-as, done}
-use Rattle.messages.proofs.PutLaws.{put1230-none}
-use Rattle.messages.proofs.Laws1230.{masked-lacks, masked-none, signal-placed, signal-read, signal-stored}
+use Rattle.messages.proofs.StoreLaws.{Doing, begun, left-as, done, put1230-none}
+use Rattle.messages.proofs.Read1230Laws.{masked-lacks, masked-none, signal-placed, signal-read, signal-stored}
 use Rattle.messages.proofs.read1230.store.Statement.{statement}
 use Rattle.messages.proofs.read1230.store.Tie as tie
 

@@ -4,10 +4,10 @@ use native.Mathlib.Omega.{arith}
 use Rattle.bits.specs.Answers.{toldSigned}
 use Rattle.messages.specs.ReadSteps.{put1230}
 use Rattle.messages.proofs.ArmLaws.{twos-cut}
-use Rattle.messages.proofs.BiasLaws.{bias-narrow}
+use Rattle.messages.proofs.I16Laws.{bias-narrow}
 use Rattle.messages.proofs.PassLaws.{placed-one, stored-short}
-use Rattle.messages.proofs.PutLaws.{put1230-none}
-use Rattle.messages.proofs.Laws1230.{bias-cut, bias-read, bias-stored}
+use Rattle.messages.proofs.StoreLaws.{put1230-none}
+use Rattle.messages.proofs.Read1230Laws.{bias-cut, bias-read, bias-stored}
 use borrow.Author.Needs.{needs}
 use Rattle.messages.proofs.read1230.store_bias.Statement.{statement}
 use Rattle.messages.proofs.read1230.store_bias.Tie as tie

@@ -2,7 +2,7 @@
 use borrow.Author.Needs.{needs}
 use Rattle.messages.specs.Signals.{tableOf, gps, glo, gal, sbas, qzss, bds, navic}
 use Rattle.messages.specs.Columns.{entries, lineOf}
-use Rattle.messages.proofs.SignalLaws.{no-table}
+use Rattle.messages.proofs.ColumnLaws.{no-table}
 use Rattle.messages.proofs.signals.line_of.Statement.{statement}
 use Rattle.messages.proofs.signals.line_of.Tie as tie
 

@@ -3,7 +3,7 @@ use mathlib.Core.Path.{_∙_, sym, ap}
 use borrow.Author.Needs.{needs}
 use Rattle.messages.specs.Columns.{foundLine, numberAt}
 use Rattle.messages.specs.declared.signals.Line.{Line}
-use Rattle.messages.proofs.SignalLaws.{number-by-line}
+use Rattle.messages.proofs.ColumnLaws.{number-by-line}
 use Rattle.messages.proofs.signals.number_of.Statement.{statement}
 use Rattle.messages.proofs.signals.number_of.Tie as tie
 

@@ -2,7 +2,7 @@
 use mathlib.Core.Path.{_∙_, sym, ap}
 use borrow.Author.Needs.{needs}
 use Rattle.messages.specs.Columns.{signalAt}
-use Rattle.messages.proofs.SignalLaws.{signal-by-line}
+use Rattle.messages.proofs.ColumnLaws.{signal-by-line}
 use Rattle.messages.proofs.signals.signal_of.Statement.{statement}
 use Rattle.messages.proofs.signals.signal_of.Tie as tie
 

@@ -1,6 +1,6 @@
 -- `messages::signals1059::is_signal_1059` meets its contract: the mask of the edition tells its signals. Assumes nothing.
 use borrow.Author.Needs.{needs}
-use Rattle.messages.proofs.MaskLaws.{mask-tells}
+use Rattle.messages.proofs.Signals1059Laws.{mask-tells}
 use Rattle.messages.proofs.signals1059.is_signal_1059.Statement.{statement}
 use Rattle.messages.proofs.signals1059.is_signal_1059.Tie as tie
 

@@ -4,7 +4,7 @@ use borrow.Author.Needs.{needs}
 use Rattle.messages.specs.Signals.{signalOf}
 use Rattle.messages.specs.Signals1059.{edition1, signals1059}
 use Rattle.messages.specs.Columns.{entries, signalAt}
-use Rattle.messages.proofs.SignalLaws.{no-edition, signal-by-line}
+use Rattle.messages.proofs.ColumnLaws.{no-edition, signal-by-line}
 use Rattle.messages.proofs.signals1059.signal_of_1059.Statement.{statement}
 use Rattle.messages.proofs.signals1059.signal_of_1059.Tie as tie
 

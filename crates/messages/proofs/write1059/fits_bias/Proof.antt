@@ -1,5 +1,5 @@
 -- `messages::write1059::fits_bias` meets its contract. The two tests are the two ends of the range. Assumes nothing.
-use Rattle.messages.proofs.SmallLaws.{fits-below, fits-else}
+use Rattle.messages.proofs.I16Laws.{fits-below, fits-else}
 use Rattle.messages.proofs.write1059.fits_bias.Statement.{statement}
 use Rattle.messages.proofs.write1059.fits_bias.Tie as tie
 

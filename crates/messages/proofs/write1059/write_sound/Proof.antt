@@ -14,7 +14,7 @@ use Rattle.messages.specs.Write1059.{satellitesFrom}
 use Rattle.messages.specs.Steps1059.{writeSound}
 use borrow.Author.Needs.{needs}
 use Rattle.messages.proofs.LinkLaws.{linked-none}
-use Rattle.messages.proofs.SoundLaws.{sound-crowded, sound-all, sound-counts, sound-room, sound-first, sound-rest, sound-put}
+use Rattle.messages.proofs.Write1059Laws.{sound-crowded, sound-all, sound-counts, sound-room, sound-first, sound-rest, sound-put}
 use Rattle.messages.proofs.write1059.write_sound.Statement.{statement}
 use Rattle.messages.proofs.write1059.write_sound.Tie as tie
 

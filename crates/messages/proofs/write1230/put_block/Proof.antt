@@ -6,7 +6,7 @@ use borrow.Author.Needs.{needs}
 use Rattle.bits.specs.Fields.{Field, bits}
 use Rattle.messages.specs.Records.{records1230}
 use Rattle.messages.specs.Write1230.{ofSignal, biasFields16, fields1230}
-use Rattle.messages.proofs.LeftLaws.{Left, left-all, left-as, left-fits, left-put, left-none}
+use Rattle.messages.proofs.PutLaws.{Left, left-all, left-as, left-fits, left-put, left-none}
 use Rattle.messages.proofs.Fields1230Laws.{mask-is, laid}
 use Rattle.messages.proofs.write1230.put_block.Statement.{statement}
 use Rattle.messages.proofs.write1230.put_block.Tie as tie

@@ -9,8 +9,8 @@ use Rattle.bits.specs.Signed.{twosBits}
 use Rattle.bits.specs.Fields.{bits}
 use Rattle.messages.specs.Records.{records1230}
 use Rattle.messages.specs.Write1230.{ofSignal, biasFields16}
-use Rattle.messages.proofs.SmallLaws.{same-16, all-fit}
-use Rattle.messages.proofs.LeftLaws.{Left, left-all, left-as, left-fits, left-put, left-none}
+use Rattle.messages.proofs.I16Laws.{same-16, all-fit}
+use Rattle.messages.proofs.PutLaws.{Left, left-all, left-as, left-fits, left-put, left-none}
 use Rattle.messages.proofs.RecordLaws.{from1230}
 use Rattle.messages.proofs.Fields1230Laws.{bias-here, bias-later, bias-none}
 use Rattle.messages.proofs.write1230.put_signal.Statement.{statement}

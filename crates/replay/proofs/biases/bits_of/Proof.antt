@@ -1,6 +1,6 @@
 -- A cast to more bits keeps the number. Assumes nothing.
 use borrow.Author.Needs.{needs}
-use Rattle.messages.proofs.SmallLaws.{widen}
+use Rattle.messages.proofs.I16Laws.{widen}
 use Rattle.replay.proofs.biases.bits_of.Statement.{statement}
 use Rattle.replay.proofs.biases.bits_of.Tie as tie
 

@@ -17,7 +17,7 @@ use Rattle.messages.specs.Write1059.{ofSatellite, crowded, present, bias
 use Rattle.messages.specs.Satellites1059.{Sat, recordsOf, AscendingFrom}
 use Rattle.messages.proofs.Fields1059Laws.{fields-some}
 use Rattle.messages.proofs.Biases1059.{Own}
-use Rattle.messages.proofs.SatellitesStand.{Sound, oneSat, satFields}
+use Rattle.messages.proofs.Satellites1059Laws.{Sound, oneSat, satFields}
 
 -- ---- the records of one satellite
 

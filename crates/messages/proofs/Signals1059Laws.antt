@@ -1,4 +1,4 @@
--- The mask of a table tells its numbers. Assumes nothing.
+-- The mask of an edition of the 1059 signals tells its numbers. Assumes nothing.
 use mathlib.Core.Path.{_≡_, refl, _∙_, sym}
 use mathlib.Core.Bool.{Bool, true, false, _&&_, Bool·beq, true≢false}
 use mathlib.Core.List.{List, [], _∷_}

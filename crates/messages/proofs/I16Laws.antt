@@ -1,0 +1,60 @@
+-- Numbers of 16 bits, as the code has them: read out of a field or a list, compared, and cast from and to 64 bits. Assumes nothing.
+use mathlib.Core.Path.{_≡_, sym, ap, _∙_}
+use mathlib.Core.List.{List}
+use mathlib.Core.Bool.{true, false, true≢false}
+use Prim.Native.Nat.{ℕ, _-_, _^_, _≤_, _<_}
+use native.Mathlib.Omega.{arith}
+use native.Mathlib.Nat.{not-suc-le-zero}
+use borrow.Author.Tests.{ltb-true, lt-ltb}
+use lib.IntN.{ℤ, pos, negsuc}
+use lib.Pow.{pow-mono}
+use lib.Signed.{mag, ltZ}
+use mir.Syntax.{w16, w64}
+use mir.Val.{SFits, toZ, ofZ}
+use mir.ValLaws.{toZ-ofZ}
+use Rattle.bits.specs.Told.{Accepted}
+use Rattle.bits.specs.Field.{Reading, reading, readTwos, field}
+use Rattle.bits.specs.Signed.{twosOf, fitsTwos}
+use Rattle.bits.proofs.FieldLaws.{field-lt}
+use Rattle.bits.proofs.SignedLaws.{fits-twos, twos-fits}
+use Rattle.bits.proofs.ReadLaws.{read-tells}
+
+twos-small : (s : List ℕ) (p w : ℕ) → w ≤ 16 → {z : ℤ} {q : ℕ} → readTwos s p w ≡ Accepted (reading z q) → mag z < 2 ^ 15
+twos-small s p w h {z} {q} e =
+    let t = read-tells (twosOf w) s p w e in
+    let d : z ≡ twosOf w (field s p w) = ap (λ (r : Reading ℤ). r .value) (t .is) in
+    let f = sym (fits-twos w z) ∙ ap (fitsTwos w) d ∙ twos-fits w (t .low) (field s p w) (field-lt s p w) in
+    omega (arith, ltb-true (mag z) (2 ^ (w - 1)) f, pow-mono {i = w - 1} {j = 15} (omega arith))
+
+-- the cast loses nothing
+pub bias-narrow : (s : List ℕ) (p w : ℕ) → w ≤ 16 → {z : ℤ} {q : ℕ} → readTwos s p w ≡ Accepted (reading z q)
+    → (SFits w16 (toZ w64 (ofZ w64 z))) × (toZ w16 (ofZ w16 (toZ w64 (ofZ w64 z))) ≡ z)
+bias-narrow s p w h {z} e =
+    let m : mag z < 2 ^ 15 = twos-small s p w h e in
+    let f : SFits w64 z = record { sfits = omega arith } in
+    let g : SFits w16 z = record { sfits = m } in
+    rw (toZ-ofZ w64 z f) (g, toZ-ofZ w16 z g)
+
+-- a number out of a list is handed on as it is
+pub same-16 : (z : ℤ) → mag z < 2 ^ 15 → toZ w16 (ofZ w16 z) ≡ z
+same-16 z h = toZ-ofZ w16 z (record { sfits = h })
+
+-- and fits 16 bits
+pub all-fit : (z : ℤ) → mag z < 2 ^ 15 → fitsTwos 16 z ≡ true
+all-fit (pos n) h = lt-ltb n (2 ^ 15) h
+all-fit (negsuc n) h = lt-ltb n (2 ^ 15) h
+
+-- a cast to 64 bits fits, and keeps the number
+pub widen : (z : ℤ) → SFits w16 z → (SFits w64 (toZ w16 (ofZ w16 z))) × (toZ w64 (ofZ w64 (toZ w16 (ofZ w16 z))) ≡ z)
+widen z g =
+    let f : SFits w64 z = record { sfits = omega (arith, g .sfits) } in
+    rw (toZ-ofZ w16 z g) (f, toZ-ofZ w64 z f)
+
+-- the range of 14 bits, below zero and else
+pub fits-below : (z : ℤ) → SFits w16 z → ltZ (toZ w16 (ofZ w16 z)) (pos 0) ≡ true → ltZ (negsuc 8192) (toZ w16 (ofZ w16 z)) ≡ fitsTwos 14 z
+fits-below (pos n) f e = absurd (not-suc-le-zero (ltb-true n 0 (rw (toZ-ofZ w16 (pos n) f) at e)))
+fits-below (negsuc n) f e = rw (toZ-ofZ w16 (negsuc n) f)
+
+pub fits-else : (z : ℤ) → SFits w16 z → ltZ (toZ w16 (ofZ w16 z)) (pos 0) ≡ false → ltZ (toZ w16 (ofZ w16 z)) (pos 8192) ≡ fitsTwos 14 z
+fits-else (pos n) f e = rw (toZ-ofZ w16 (pos n) f)
+fits-else (negsuc n) f e = absurd (true≢false (rw (toZ-ofZ w16 (negsuc n) f) at e))
