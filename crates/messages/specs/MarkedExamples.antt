@@ -34,6 +34,7 @@ pub data Example : Type 0 where
   Write1059 : List ℕ → List ℕ → List ℕ → List ℤ → Wrote → Example
   Write1230 : List ℕ → List ℕ → List ℤ → Wrote → Example
 
+-- n zero bytes
 abbrev pub zeros : ℕ → List ℕ
 zeros n = replicate n 0
 
@@ -52,6 +53,7 @@ Given (Write1230 s gs zs w) = write1230 s 0 gs zs ≡ w
 abbrev pub empty : List ℕ
 empty = 0xD3 ∷ 0x00 ∷ 0x00 ∷ 0x47 ∷ 0xEA ∷ 0x4B ∷ []
 
+-- the list, each under its own words
 abbrev pub examples : List Example
 examples =
     -- 1. Checksum of nothing: 0. Of D3: E33309. Of D3 00 00: 47EA4B.

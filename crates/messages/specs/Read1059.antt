@@ -36,6 +36,7 @@ pub record Read1059 : Type 0 where
   pub signals : List ℕ
   pub biases : List ℤ
 
+-- an answer, and the lists
 abbrev pub outcome1059 : Told Counted → List ℕ → List ℕ → List ℤ → Read1059
 outcome1059 a sats gs zs = record { answer = a; satellites = sats; signals = gs; biases = zs }
 

@@ -36,6 +36,7 @@ pub record Read1230 : Type 0 where
   pub signals : List ℕ
   pub biases : List ℤ
 
+-- an answer, and the lists
 abbrev pub outcome1230 : Told Counted → List ℕ → List ℤ → Read1230
 outcome1230 a gs zs = record { answer = a; signals = gs; biases = zs }
 

@@ -32,11 +32,13 @@ module _ {A : Type 0} where
 
 -- ---- the lent lists of message 1059
 
+-- satellites, signals and raw biases
 pub record Lists1059 : Type 0 where
   pub satellites : List ℕ
   pub signals : List ℕ
   pub biases : List ℤ
 
+-- three lists as one
 abbrev pub lists1059 : List ℕ → List ℕ → List ℤ → Lists1059
 lists1059 sats gs zs = record { satellites = sats; signals = gs; biases = zs }
 
@@ -45,7 +47,7 @@ unfoldable pub put1059 : ℕ → List Rec1059 → Lists1059 → Lists1059
 put1059 i rs l =
     lists1059 (sets (l .satellites) i (map satelliteOf rs)) (sets (l .signals) i (map signalOf1059 rs)) (sets (l .biases) i (map biasOf1059 rs))
 
--- what the second pass asks
+-- what the second pass asks: data within their limit, places for the records, lists of one length
 pub record Ready1059 (s : List ℕ) (i : ℕ) (t : Told (Reading (List Rec1059))) (sats gs : List ℕ) (zs : List ℤ) : Type 0 where
   pub few : length s ≤ 1023
   pub placed : Placed i t (length sats)
@@ -54,16 +56,20 @@ pub record Ready1059 (s : List ℕ) (i : ℕ) (t : Told (Reading (List Rec1059))
 
 -- ---- the lent lists of message 1230
 
+-- signals and raw biases
 pub record Lists1230 : Type 0 where
   pub signals : List ℕ
   pub biases : List ℤ
 
+-- two lists as one
 abbrev pub lists1230 : List ℕ → List ℤ → Lists1230
 lists1230 gs zs = record { signals = gs; biases = zs }
 
+-- the lists with records stored from place i on
 unfoldable pub put1230 : ℕ → List Rec1230 → Lists1230 → Lists1230
 put1230 i rs l = lists1230 (sets (l .signals) i (map signalOf1230 rs)) (sets (l .biases) i (map biasOf1230 rs))
 
+-- what the second pass asks: data within their limit, places for the records, lists of one length
 pub record Ready1230 (s : List ℕ) (i : ℕ) (t : Told (Reading (List Rec1230))) (gs : List ℕ) (zs : List ℤ) : Type 0 where
   pub few : length s ≤ 1023
   pub placed : Placed i t (length gs)

@@ -17,6 +17,7 @@ pub record Sat : Type 0 where
   pub number : ℕ
   pub records : List Rec1059
 
+-- satellite a with its records
 abbrev pub sat : ℕ → List Rec1059 → Sat
 sat a rs = record { number = a; records = rs }
 

@@ -6,13 +6,15 @@ use lib.Dec.{ltb, eqb}
 use lib.IntN.{ℤ, pos, negsuc}
 use Rattle.messages.specs.Signals.{Signal, sig, Entry, Found, At, None, numberOf}
 
--- a signal stands before another as -1, with it as 0, behind it as 1
+-- a signal that stands before another
 abbrev pub less : ℤ
 less = negsuc 0
 
+-- one that stands with it
 abbrev pub equal : ℤ
 equal = pos 0
 
+-- one that stands behind it
 abbrev pub greater : ℤ
 greater = pos 1
 

@@ -1,4 +1,4 @@
--- What is counted so far, and what is left, are the whole. Assumes nothing.
+-- `messages::read1059::measure` meets its contract. What is counted so far, and what is left, are the whole. Assumes nothing.
 use mathlib.Core.Path.{_≡_, sym, ap, _∙_}
 use Prim.Native.Nat.{_-_, _*_, _≤_}
 use native.Mathlib.Omega.{arith}

@@ -1,4 +1,4 @@
--- Each bias has 19 bits, so what fits and where it is cut short follow from the bits that are left. Assumes nothing.
+-- `messages::read1059::measure_biases` meets its contract. Each bias has 19 bits, so what fits and where it is cut short follow from the bits that are left. Assumes nothing.
 use native.Mathlib.Omega.{arith}
 use Rattle.messages.proofs.Read1059Laws.{biases-fit, no-signal, no-bias}
 use borrow.Author.Needs.{needs}

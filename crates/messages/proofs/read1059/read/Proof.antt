@@ -1,4 +1,4 @@
--- The first pass decides the answer, and the second stores what it found. Assumes nothing.
+-- `messages::read1059::read` meets its contract. The first pass decides the answer, and the second stores what it found. Assumes nothing.
 use mathlib.Core.Path.{refl, sym, ap, _∙_}
 use native.Mathlib.Omega.{arith}
 use Rattle.bits.specs.Answers.{toldUnsigned}

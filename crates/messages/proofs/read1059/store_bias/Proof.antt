@@ -1,4 +1,4 @@
--- Signal and bias are read, and the record that they make is stored. Assumes nothing.
+-- `messages::read1059::store_bias` meets its contract. Signal and bias are read, and the record that they make is stored. Assumes nothing.
 use mathlib.Core.Path.{sym, ap, _∙_}
 use native.Mathlib.Omega.{arith}
 use Rattle.bits.specs.Answers.{toldUnsigned, toldSigned}

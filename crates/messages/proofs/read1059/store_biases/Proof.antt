@@ -1,4 +1,4 @@
--- The biases are stored one behind the other. Assumes nothing.
+-- `messages::read1059::store_biases` meets its contract. The biases are stored one behind the other. Assumes nothing.
 use mathlib.Core.Path.{_≡_, refl, ap}
 use Prim.Native.Nat.{_-_, _≤_}
 use native.Mathlib.Omega.{arith}

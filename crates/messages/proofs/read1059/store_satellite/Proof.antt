@@ -1,4 +1,4 @@
--- Its number and its bias count are read, and its biases are stored. Assumes nothing.
+-- `messages::read1059::store_satellite` meets its contract. Its number and its bias count are read, and its biases are stored. Assumes nothing.
 use mathlib.Core.Path.{sym, ap, _∙_}
 use native.Mathlib.Omega.{arith}
 use Rattle.bits.specs.Answers.{toldUnsigned}

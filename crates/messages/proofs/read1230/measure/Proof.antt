@@ -1,4 +1,4 @@
--- Each bias has 16 bits, so what fits and where it is cut short follow from the bits that are left. Assumes nothing.
+-- `messages::read1230::measure` meets its contract. Each bias has 16 bits, so what fits and where it is cut short follow from the bits that are left. Assumes nothing.
 use native.Mathlib.Omega.{arith}
 use Rattle.messages.proofs.Read1230Laws.{biases-fit, no-bias}
 use borrow.Author.Needs.{needs}

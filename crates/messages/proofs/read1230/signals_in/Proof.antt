@@ -1,4 +1,4 @@
--- Each set bit of the mask is one signal. Assumes nothing.
+-- `messages::read1230::signals_in` meets its contract. Each set bit of the mask is one signal. Assumes nothing.
 use native.Mathlib.Omega.{arith}
 use Rattle.messages.proofs.Read1230Laws.{masked-length}
 use borrow.Author.Needs.{needs}

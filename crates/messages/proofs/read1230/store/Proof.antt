@@ -1,4 +1,4 @@
--- The signals of the mask are passed one by one, and the biases of those whose bit is set are stored. Assumes nothing.
+-- `messages::read1230::store` meets its contract. The signals of the mask are passed one by one, and the biases of those whose bit is set are stored. Assumes nothing.
 use mathlib.Core.Path.{_≡_, refl, ap}
 use Prim.Native.Nat.{_-_, _≤_}
 use native.Mathlib.Omega.{arith}

@@ -1,4 +1,4 @@
--- The bias is read, and the record that it makes is stored. Assumes nothing.
+-- `messages::read1230::store_bias` meets its contract. The bias is read, and the record that it makes is stored. Assumes nothing.
 use mathlib.Core.Path.{sym, ap, _∙_}
 use native.Mathlib.Omega.{arith}
 use Rattle.bits.specs.Answers.{toldSigned}
