@@ -170,18 +170,54 @@ pub(crate) fn signal_at(line: Line) -> SignalFound
     }
 }
 
-// The first line of the system's table that has what is wanted.
+// The first line of the system's table that has what is wanted. Each arm makes the columns of its own system: a constant
+// that is lent as it stands would be made at the start, whatever the system.
 fn line_of(system: u32, wanted: Wanted) -> Line
     ensures { λ r. ⌜ foundLine r ≡ lineOf (tableOf system) wanted ⌝ }
 {
     match system {
-        0 => line_in(&GPS_NUMBERS, &GPS_BANDS, &GPS_LETTERS, wanted),
-        1 => line_in(&GLO_NUMBERS, &GLO_BANDS, &GLO_LETTERS, wanted),
-        2 => line_in(&GAL_NUMBERS, &GAL_BANDS, &GAL_LETTERS, wanted),
-        3 => line_in(&SBAS_NUMBERS, &SBAS_BANDS, &SBAS_LETTERS, wanted),
-        4 => line_in(&QZSS_NUMBERS, &QZSS_BANDS, &QZSS_LETTERS, wanted),
-        5 => line_in(&BDS_NUMBERS, &BDS_BANDS, &BDS_LETTERS, wanted),
-        6 => line_in(&NAVIC_NUMBERS, &NAVIC_BANDS, &NAVIC_LETTERS, wanted),
+        0 => {
+            let numbers = GPS_NUMBERS;
+            let bands = GPS_BANDS;
+            let letters = GPS_LETTERS;
+            line_in(&numbers, &bands, &letters, wanted)
+        }
+        1 => {
+            let numbers = GLO_NUMBERS;
+            let bands = GLO_BANDS;
+            let letters = GLO_LETTERS;
+            line_in(&numbers, &bands, &letters, wanted)
+        }
+        2 => {
+            let numbers = GAL_NUMBERS;
+            let bands = GAL_BANDS;
+            let letters = GAL_LETTERS;
+            line_in(&numbers, &bands, &letters, wanted)
+        }
+        3 => {
+            let numbers = SBAS_NUMBERS;
+            let bands = SBAS_BANDS;
+            let letters = SBAS_LETTERS;
+            line_in(&numbers, &bands, &letters, wanted)
+        }
+        4 => {
+            let numbers = QZSS_NUMBERS;
+            let bands = QZSS_BANDS;
+            let letters = QZSS_LETTERS;
+            line_in(&numbers, &bands, &letters, wanted)
+        }
+        5 => {
+            let numbers = BDS_NUMBERS;
+            let bands = BDS_BANDS;
+            let letters = BDS_LETTERS;
+            line_in(&numbers, &bands, &letters, wanted)
+        }
+        6 => {
+            let numbers = NAVIC_NUMBERS;
+            let bands = NAVIC_BANDS;
+            let letters = NAVIC_LETTERS;
+            line_in(&numbers, &bands, &letters, wanted)
+        }
         _ => Line::None,
     }
 }
