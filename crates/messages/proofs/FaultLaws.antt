@@ -17,7 +17,7 @@ use Rattle.messages.specs.Columns.{maskOf, inMask}
 use Rattle.messages.specs.Records.{Rec1059, rec1059, records1059}
 use Rattle.messages.specs.Writer.{fine, firstFault}
 use Rattle.messages.specs.Write1059.{fault1059}
-use Rattle.messages.specs.Steps1059.{faultBy, Sound}
+use Rattle.messages.specs.WriteSteps1059.{faultBy, Sound}
 use Rattle.messages.proofs.Signals1059Laws.{mask-tells, signal-fits}
 use Rattle.messages.proofs.Accepts1059.{Writable, fine-clean}
 use Rattle.messages.proofs.RecordLaws.{from1059, next1059, end1059}

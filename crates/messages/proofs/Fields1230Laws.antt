@@ -17,7 +17,7 @@ use Rattle.messages.specs.Records.{Rec1230, rec1230, records1230}
 use Rattle.messages.specs.Read1230.{maskSignals}
 use Rattle.messages.specs.Writer.{fine, keep, firstFault}
 use Rattle.messages.specs.Write1230.{isIn, ofSignal, maskOf, biasFields16, inMaskOrder, fields1230}
-use Rattle.messages.specs.Steps1230.{unknownAt}
+use Rattle.messages.specs.WriteSteps1230.{unknownAt}
 use Rattle.messages.proofs.RecordLaws.{from1230, next1230, end1230}
 use Rattle.messages.proofs.Signals1230Laws.{known-first, one-of-four}
 

@@ -37,7 +37,6 @@ pub mod I16Laws
 pub mod RecordLaws
 pub mod FaultLaws
 pub mod LinkLaws
-pub mod SatelliteLaws
 pub mod Fields1059Laws
 pub mod CrowdLaws
 pub mod Write1059Laws

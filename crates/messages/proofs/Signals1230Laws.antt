@@ -16,7 +16,7 @@ use Rattle.messages.specs.Records.{records1230}
 use Rattle.messages.specs.Read1230.{maskSignals}
 use Rattle.messages.specs.Writer.{fine, firstFault}
 use Rattle.messages.specs.Write1230.{isIn, fault1230, firstRepeat}
-use Rattle.messages.specs.Steps1230.{unknownAt, repeatIn}
+use Rattle.messages.specs.WriteSteps1230.{unknownAt, repeatIn}
 
 -- ---- k in a list
 

@@ -14,11 +14,11 @@ use Rattle.bits.specs.Fields.{bits, total, putAll}
 use Rattle.messages.specs.Records.{Rec1059, records1059}
 use Rattle.messages.specs.Writer.{fine, firstFault, putRun}
 use Rattle.messages.specs.Write1059.{fault1059, crowded, present, fields1059, writeRecords1059, write1059, ofSatellite, satellitesFrom}
-use Rattle.messages.specs.Steps1059.{writeSound, Sound, Linked, crowdedIn, presentIn}
+use Rattle.messages.specs.WriteSteps1059.{writeSound, Sound, Linked, crowdedIn, presentIn}
 use Rattle.messages.specs.Put.{Fits, Did}
 use Rattle.messages.proofs.PutLaws.{Left, left-all, left-as, left-fits, left-put, left-none}
 use Rattle.messages.proofs.WriterLaws.{run-put, run-room}
-use Rattle.messages.proofs.SatelliteLaws.{count-records}
+use Rattle.messages.proofs.LinkLaws.{count-records}
 use Rattle.messages.proofs.CrowdLaws.{counts-fit, crowded-is, present-is, bits-is}
 
 -- ---- records without a fault

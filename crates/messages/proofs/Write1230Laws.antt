@@ -15,7 +15,7 @@ use Rattle.messages.specs.Put.{Fits}
 use Rattle.messages.specs.Records.{records1230}
 use Rattle.messages.specs.Writer.{fine, firstFault, putRun}
 use Rattle.messages.specs.Write1230.{fault1230, firstRepeat, fields1230, writeRecords1230, write1230}
-use Rattle.messages.specs.Steps1230.{unknownAt, repeatIn}
+use Rattle.messages.specs.WriteSteps1230.{unknownAt, repeatIn}
 use Rattle.messages.proofs.WriterLaws.{run-put, run-room}
 use Rattle.messages.proofs.Signals1230Laws.{fault-by-signals, repeat-by-signals}
 use Rattle.messages.proofs.Fields1230Laws.{bits-is}

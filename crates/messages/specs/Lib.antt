@@ -19,5 +19,5 @@ pub mod Raw1230
 pub mod Columns
 pub mod ReadSteps
 pub mod Put
-pub mod Steps1059
-pub mod Steps1230
+pub mod WriteSteps1059
+pub mod WriteSteps1230

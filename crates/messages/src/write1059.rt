@@ -14,7 +14,7 @@ ghost use Rattle.messages.specs.Put.{Fits, Did};
 ghost use Rattle.messages.specs.Records.{records1059};
 ghost use Rattle.messages.specs.Writer.{fine, firstFault};
 ghost use Rattle.messages.specs.Write1059.{ofSatellite, satelliteFields, satellitesFrom, write1059};
-ghost use Rattle.messages.specs.Steps1059.{toldFault, faultBy, Sound, writeSound, nextOf, countOf, Links, Linked, crowdedIn, presentIn};
+ghost use Rattle.messages.specs.WriteSteps1059.{toldFault, faultBy, Sound, writeSound, nextOf, countOf, Links, Linked, crowdedIn, presentIn};
 use crate::answer::BlockWritten;
 use crate::put;
 use crate::signals1059::in_mask;

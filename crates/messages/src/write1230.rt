@@ -14,7 +14,7 @@ ghost use Rattle.messages.specs.Records.{records1230};
 ghost use Rattle.messages.specs.Read1230.{maskSignals};
 ghost use Rattle.messages.specs.Writer.{fine, firstFault};
 ghost use Rattle.messages.specs.Write1230.{isIn, ofSignal, biasFields16, fields1230, write1230};
-ghost use Rattle.messages.specs.Steps1230.{unknownAt, repeatIn};
+ghost use Rattle.messages.specs.WriteSteps1230.{unknownAt, repeatIn};
 use crate::answer::BlockWritten;
 use crate::put;
 use crate::read1230::MASK_SIGNALS;

@@ -1,7 +1,7 @@
 -- `messages::write1059::write_edition` meets its contract. Each answer is the one that the sizes and the first fault ask for. Assumes nothing.
 use mathlib.Core.Path.{ap, _∙_}
 use borrow.Author.Needs.{needs}
-use Rattle.messages.specs.Steps1059.{toldFault}
+use Rattle.messages.specs.WriteSteps1059.{toldFault}
 use Rattle.messages.proofs.FaultLaws.{found, sound}
 use Rattle.messages.proofs.Write1059Laws.{long-data, uneven-signals, uneven-biases, many-records, some-fault, no-fault}
 use Rattle.messages.proofs.write1059.write_edition.Statement.{statement}

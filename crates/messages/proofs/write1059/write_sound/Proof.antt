@@ -11,7 +11,7 @@ use Rattle.bits.specs.Fields.{bits, putAll}
 use Rattle.messages.specs.Put.{Fits, Did}
 use Rattle.messages.specs.Records.{Rec1059, records1059}
 use Rattle.messages.specs.Write1059.{satellitesFrom}
-use Rattle.messages.specs.Steps1059.{writeSound}
+use Rattle.messages.specs.WriteSteps1059.{writeSound}
 use borrow.Author.Needs.{needs}
 use Rattle.messages.proofs.LinkLaws.{linked-none}
 use Rattle.messages.proofs.Write1059Laws.{sound-crowded, sound-all, sound-counts, sound-room, sound-first, sound-rest, sound-put}

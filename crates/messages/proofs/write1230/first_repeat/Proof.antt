@@ -9,7 +9,7 @@ use borrow.Author.Needs.{needs}
 use borrow.Author.Tests.{lt-ltb, le-ltb}
 use lib.ListN.{length, take, drop, getD}
 use Rattle.messages.specs.Write1230.{isIn}
-use Rattle.messages.specs.Steps1230.{repeatIn}
+use Rattle.messages.specs.WriteSteps1230.{repeatIn}
 use Rattle.messages.proofs.Signals1230Laws.{seenAt, repeat-here, no-repeat-here, no-repeat}
 use Rattle.messages.proofs.write1230.first_repeat.Statement.{statement}
 use Rattle.messages.proofs.write1230.first_repeat.Tie as tie

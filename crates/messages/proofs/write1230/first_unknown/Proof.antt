@@ -6,7 +6,7 @@ use borrow.Author.Needs.{needs}
 use borrow.Author.Tests.{lt-ltb, le-ltb, not-true, not-false}
 use lib.ListN.{length, drop}
 use Rattle.messages.specs.Writer.{firstFault}
-use Rattle.messages.specs.Steps1230.{unknownAt}
+use Rattle.messages.specs.WriteSteps1230.{unknownAt}
 use Rattle.messages.proofs.Signals1230Laws.{unknown-here, known-here, none-unknown}
 use Rattle.messages.proofs.write1230.first_unknown.Statement.{statement}
 use Rattle.messages.proofs.write1230.first_unknown.Tie as tie
