@@ -4,7 +4,7 @@
 ghost use mathlib.Core.Path.{_≡_};
 ghost use mathlib.Core.Bool.{_&&_};
 ghost use lib.Dec.{eqb};
-ghost use Rattle.messages.specs.Signals.{sig, entry, tableOf, signalOf, numberOf};
+ghost use Rattle.messages.specs.Signals.{sig, entry, tableOf, gps, glo, gal, sbas, qzss, bds, navic, signalOf, numberOf};
 ghost use Rattle.messages.specs.SignalOrder.{order, compared, byBand};
 ghost use Rattle.messages.specs.Answers.{foundSignal, foundNumber, toldOrder};
 ghost use Rattle.messages.specs.Columns.{Even, entries, has, lineOf, foundLine, signalAt};
@@ -34,11 +34,23 @@ const GPS_BANDS: [u8; 15] = [1, 1, 1, 2, 2, 2, 2, 2, 2, 5, 5, 5, 1, 1, 1];
 
 const GPS_LETTERS: [u8; 15] = *b"CPWCPWSLXIQXSLX";
 
+fn gps(wanted: Wanted) -> Line
+    ensures { λ r. ⌜ foundLine r ≡ lineOf gps wanted ⌝ }
+{
+    line_in(&GPS_NUMBERS, &GPS_BANDS, &GPS_LETTERS, wanted)
+}
+
 const GLO_NUMBERS: [u8; 4] = [2, 3, 8, 9];
 
 const GLO_BANDS: [u8; 4] = [1, 1, 2, 2];
 
 const GLO_LETTERS: [u8; 4] = *b"CPCP";
+
+fn glo(wanted: Wanted) -> Line
+    ensures { λ r. ⌜ foundLine r ≡ lineOf glo wanted ⌝ }
+{
+    line_in(&GLO_NUMBERS, &GLO_BANDS, &GLO_LETTERS, wanted)
+}
 
 const GAL_NUMBERS: [u8; 19] = [
     2,
@@ -66,11 +78,23 @@ const GAL_BANDS: [u8; 19] = [1, 1, 1, 1, 1, 6, 6, 6, 6, 6, 7, 7, 7, 8, 8, 8, 5, 
 
 const GAL_LETTERS: [u8; 19] = *b"CABXZCABXZIQXIQXIQX";
 
+fn gal(wanted: Wanted) -> Line
+    ensures { λ r. ⌜ foundLine r ≡ lineOf gal wanted ⌝ }
+{
+    line_in(&GAL_NUMBERS, &GAL_BANDS, &GAL_LETTERS, wanted)
+}
+
 const SBAS_NUMBERS: [u8; 4] = [2, 22, 23, 24];
 
 const SBAS_BANDS: [u8; 4] = [1, 5, 5, 5];
 
 const SBAS_LETTERS: [u8; 4] = *b"CIQX";
+
+fn sbas(wanted: Wanted) -> Line
+    ensures { λ r. ⌜ foundLine r ≡ lineOf sbas wanted ⌝ }
+{
+    line_in(&SBAS_NUMBERS, &SBAS_BANDS, &SBAS_LETTERS, wanted)
+}
 
 const QZSS_NUMBERS: [u8; 13] = [2, 9, 10, 11, 15, 16, 17, 22, 23, 24, 30, 31, 32];
 
@@ -78,17 +102,35 @@ const QZSS_BANDS: [u8; 13] = [1, 6, 6, 6, 2, 2, 2, 5, 5, 5, 1, 1, 1];
 
 const QZSS_LETTERS: [u8; 13] = *b"CSLXSLXIQXSLX";
 
+fn qzss(wanted: Wanted) -> Line
+    ensures { λ r. ⌜ foundLine r ≡ lineOf qzss wanted ⌝ }
+{
+    line_in(&QZSS_NUMBERS, &QZSS_BANDS, &QZSS_LETTERS, wanted)
+}
+
 const BDS_NUMBERS: [u8; 16] = [2, 3, 4, 8, 9, 10, 14, 15, 16, 22, 23, 24, 25, 30, 31, 32];
 
 const BDS_BANDS: [u8; 16] = [2, 2, 2, 6, 6, 6, 7, 7, 7, 5, 5, 5, 7, 1, 1, 1];
 
 const BDS_LETTERS: [u8; 16] = *b"IQXIQXIQXDPXDDPX";
 
+fn bds(wanted: Wanted) -> Line
+    ensures { λ r. ⌜ foundLine r ≡ lineOf bds wanted ⌝ }
+{
+    line_in(&BDS_NUMBERS, &BDS_BANDS, &BDS_LETTERS, wanted)
+}
+
 const NAVIC_NUMBERS: [u8; 2] = [8, 22];
 
 const NAVIC_BANDS: [u8; 2] = [9, 5];
 
 const NAVIC_LETTERS: [u8; 2] = *b"AA";
+
+fn navic(wanted: Wanted) -> Line
+    ensures { λ r. ⌜ foundLine r ≡ lineOf navic wanted ⌝ }
+{
+    line_in(&NAVIC_NUMBERS, &NAVIC_BANDS, &NAVIC_LETTERS, wanted)
+}
 
 // The signal that `number` stands for in the system's table.
 pub fn signal_of(system: u32, number: u32) -> SignalFound
@@ -170,54 +212,18 @@ pub(crate) fn signal_at(line: Line) -> SignalFound
     }
 }
 
-// The first line of the system's table that has what is wanted. Each arm makes the columns of its own system: a constant
-// that is lent as it stands would be made at the start, whatever the system.
+// The first line of the system's table that has what is wanted.
 fn line_of(system: u32, wanted: Wanted) -> Line
     ensures { λ r. ⌜ foundLine r ≡ lineOf (tableOf system) wanted ⌝ }
 {
     match system {
-        0 => {
-            let numbers = GPS_NUMBERS;
-            let bands = GPS_BANDS;
-            let letters = GPS_LETTERS;
-            line_in(&numbers, &bands, &letters, wanted)
-        }
-        1 => {
-            let numbers = GLO_NUMBERS;
-            let bands = GLO_BANDS;
-            let letters = GLO_LETTERS;
-            line_in(&numbers, &bands, &letters, wanted)
-        }
-        2 => {
-            let numbers = GAL_NUMBERS;
-            let bands = GAL_BANDS;
-            let letters = GAL_LETTERS;
-            line_in(&numbers, &bands, &letters, wanted)
-        }
-        3 => {
-            let numbers = SBAS_NUMBERS;
-            let bands = SBAS_BANDS;
-            let letters = SBAS_LETTERS;
-            line_in(&numbers, &bands, &letters, wanted)
-        }
-        4 => {
-            let numbers = QZSS_NUMBERS;
-            let bands = QZSS_BANDS;
-            let letters = QZSS_LETTERS;
-            line_in(&numbers, &bands, &letters, wanted)
-        }
-        5 => {
-            let numbers = BDS_NUMBERS;
-            let bands = BDS_BANDS;
-            let letters = BDS_LETTERS;
-            line_in(&numbers, &bands, &letters, wanted)
-        }
-        6 => {
-            let numbers = NAVIC_NUMBERS;
-            let bands = NAVIC_BANDS;
-            let letters = NAVIC_LETTERS;
-            line_in(&numbers, &bands, &letters, wanted)
-        }
+        0 => gps(wanted),
+        1 => glo(wanted),
+        2 => gal(wanted),
+        3 => sbas(wanted),
+        4 => qzss(wanted),
+        5 => bds(wanted),
+        6 => navic(wanted),
         _ => Line::None,
     }
 }

@@ -1,38 +1,38 @@
--- `messages::signals::line_of` meets its contract: the columns of each system are its table, line by line. Assumes nothing.
+-- Each system has its own table, and any other number none. Assumes nothing.
 use borrow.Author.Needs.{needs}
-use Rattle.messages.specs.Signals.{tableOf, gps, glo, gal, sbas, qzss, bds, navic}
-use Rattle.messages.specs.Columns.{entries, lineOf}
+use Rattle.messages.specs.Signals.{tableOf}
+use Rattle.messages.specs.Columns.{lineOf}
 use Rattle.messages.proofs.ColumnLaws.{no-table}
 use Rattle.messages.proofs.signals.line_of.Statement.{statement}
 use Rattle.messages.proofs.signals.line_of.Tie as tie
 
 returns : tie.Need-returns
-unfolding tableOf gps entries
-returns c = rw (c .before .before .before .before .match .keys1) (c .line-in .ensures)
+unfolding tableOf
+returns c = rw (c .before .match .keys1) (c .gps .ensures)
 
 returns-2 : tie.Need-returns-2
-unfolding tableOf glo entries
-returns-2 c = rw (c .before .before .before .before .match .keys2) (c .line-in2 .ensures)
+unfolding tableOf
+returns-2 c = rw (c .before .match .keys2) (c .glo .ensures)
 
 returns-3 : tie.Need-returns-3
-unfolding tableOf gal entries
-returns-3 c = rw (c .before .before .before .before .match .keys3) (c .line-in3 .ensures)
+unfolding tableOf
+returns-3 c = rw (c .before .match .keys3) (c .gal .ensures)
 
 returns-4 : tie.Need-returns-4
-unfolding tableOf sbas entries
-returns-4 c = rw (c .before .before .before .before .match .keys4) (c .line-in4 .ensures)
+unfolding tableOf
+returns-4 c = rw (c .before .match .keys4) (c .sbas .ensures)
 
 returns-5 : tie.Need-returns-5
-unfolding tableOf qzss entries
-returns-5 c = rw (c .before .before .before .before .match .keys5) (c .line-in5 .ensures)
+unfolding tableOf
+returns-5 c = rw (c .before .match .keys5) (c .qzss .ensures)
 
 returns-6 : tie.Need-returns-6
-unfolding tableOf bds entries
-returns-6 c = rw (c .before .before .before .before .match .keys6) (c .line-in6 .ensures)
+unfolding tableOf
+returns-6 c = rw (c .before .match .keys6) (c .bds .ensures)
 
 returns-7 : tie.Need-returns-7
-unfolding tableOf navic entries
-returns-7 c = rw (c .before .before .before .before .match .keys7) (c .line-in7 .ensures)
+unfolding tableOf
+returns-7 c = rw (c .before .match .keys7) (c .navic .ensures)
 
 returns-8 : tie.Need-returns-8
 unfolding lineOf
@@ -44,33 +44,12 @@ pub line-of-spec : {M : Type 1} → statement M
 line-of-spec =
     tie.close
     (tie.spec
-    (λ c. search needs)
-    (λ c. search needs)
-    (λ c. search needs)
     (λ c κs. search needs)
-    (λ c. search needs)
-    (λ c. search needs)
-    (λ c. search needs)
     (λ c κs. search needs)
-    (λ c. search needs)
-    (λ c. search needs)
-    (λ c. search needs)
     (λ c κs. search needs)
-    (λ c. search needs)
-    (λ c. search needs)
-    (λ c. search needs)
     (λ c κs. search needs)
-    (λ c. search needs)
-    (λ c. search needs)
-    (λ c. search needs)
     (λ c κs. search needs)
-    (λ c. search needs)
-    (λ c. search needs)
-    (λ c. search needs)
     (λ c κs. search needs)
-    (λ c. search needs)
-    (λ c. search needs)
-    (λ c. search needs)
     (λ c κs. search needs)
     returns
     returns-2
