@@ -1,4 +1,4 @@
--- A table of the code: a list of numbers, one of bands and one of letters. No promise to a caller rests on this file. Assumes nothing.
+-- A table of the code: its columns of numbers, bands and letters, looking for a line, and its numbers as a mask. No promise to a caller rests on this file. Assumes nothing.
 use mathlib.Core.Path.{_≡_}
 use mathlib.Core.List.{List, [], _∷_}
 use mathlib.Core.Bool.{Bool, cond, _&&_}

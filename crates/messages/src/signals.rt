@@ -168,6 +168,7 @@ pub fn compare(system: u32, band1: u32, letter1: u32, band2: u32, letter2: u32) 
     }
 }
 
+// Two signals by band, then letter.
 fn compare_bands(band1: u32, letter1: u32, band2: u32, letter2: u32) -> Order
     ensures { λ r. ⌜ toldOrder r ≡ byBand (sig band1 letter1) (sig band2 letter2) ⌝ }
 {
@@ -178,6 +179,7 @@ fn compare_bands(band1: u32, letter1: u32, band2: u32, letter2: u32) -> Order
     }
 }
 
+// Two numbers, the lower one first.
 fn compare_numbers(m: u32, n: u32) -> Order
     ensures { λ r. ⌜ toldOrder r ≡ compared m n ⌝ }
 {
@@ -256,6 +258,7 @@ fn has(number: u8, band: u8, letter: u8, wanted: Wanted) -> bool
     }
 }
 
+// Whether a line has the band and the letter.
 fn same_signal(b: u8, l: u8, band: u32, letter: u32) -> bool
     ensures { λ r. ⌜ r ≡ (eqb b band && eqb l letter) ⌝ }
 {
