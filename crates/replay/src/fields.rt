@@ -1,7 +1,5 @@
 // Fields, read and written.
 use crate::answer;
-use crate::answer::Answer;
-use crate::answer::Told;
 use crate::record;
 use bits::field;
 use bits::field::Signed;
@@ -10,47 +8,45 @@ use bits::field::Written;
 use std::num;
 
 // Kinds 3, 4 and 5: start, width and area. The answer is the value in eight bytes.
-pub fn read(kind: usize, bytes: &[u8], out: &mut [u8; 4096]) -> Answer {
-    let start = record::two(bytes, 1);
-    let width = record::one(bytes, 3);
+pub fn read(kind: usize, bytes: &[u8]) -> bool {
     let n = record::two(bytes, 4);
     let area = record::part(bytes, 6, n);
-    let length = value(kind, area, start, width, out);
-    Answer {
-        from: 6 + n,
-        length,
-    }
-}
-
-fn value(kind: usize, area: &[u8], start: usize, width: usize, out: &mut [u8; 4096]) -> usize {
+    let start = record::two(bytes, 1);
+    let width = record::one(bytes, 3);
+    let answer = record::rest(bytes, 6 + n);
     match kind {
-        3 => unsigned(field::read_unsigned(area, start, width), out),
-        4 => signed(field::read_twos(area, start, width), out),
-        _ => signed(field::read_signmag(area, start, width), out),
+        3 => is_unsigned(answer, field::read_unsigned(area, start, width)),
+        4 => is_signed(answer, field::read_twos(area, start, width)),
+        _ => is_signed(answer, field::read_signmag(area, start, width)),
     }
 }
 
-fn unsigned(read: Unsigned, out: &mut [u8; 4096]) -> usize {
+fn is_unsigned(answer: &[u8], read: Unsigned) -> bool {
     match read {
-        Unsigned::Value(v, _) => accepted(v, out),
-        Unsigned::Short(place) => answer::begin(out, 1, place),
-        Unsigned::Width => answer::begin(out, 2, 0),
-        Unsigned::Size => answer::begin(out, 9, 0),
+        Unsigned::Value(v, _) => is_value(answer, v),
+        Unsigned::Short(place) => answer::is(answer, 1, place),
+        Unsigned::Width => answer::is(answer, 2, 0),
+        Unsigned::Size => answer::is(answer, 9, 0),
     }
 }
 
-fn signed(read: Signed, out: &mut [u8; 4096]) -> usize {
+fn is_signed(answer: &[u8], read: Signed) -> bool {
     match read {
-        Signed::Value(v, _) => accepted(pattern(v), out),
-        Signed::Short(place) => answer::begin(out, 1, place),
-        Signed::Width => answer::begin(out, 2, 0),
-        Signed::Size => answer::begin(out, 9, 0),
+        Signed::Value(v, _) => is_value(answer, pattern(v)),
+        Signed::Short(place) => answer::is(answer, 1, place),
+        Signed::Width => answer::is(answer, 2, 0),
+        Signed::Size => answer::is(answer, 9, 0),
     }
 }
 
-fn accepted(v: u64, out: &mut [u8; 4096]) -> usize {
-    let next = answer::one(out, 0, 0);
-    answer::eight(out, next, v)
+fn is_value(answer: &[u8], v: u64) -> bool {
+    if answer.len() != 9 {
+        return false;
+    }
+    if answer[0] != 0 {
+        return false;
+    }
+    record::eight(answer, 1) == v
 }
 
 // A signed number as the 64 bits of its two's complement.
@@ -62,31 +58,8 @@ pub fn pattern(z: i64) -> u64 {
     amount.size
 }
 
-// Kinds 6, 7 and 8: start, width, value and area. The answer is the bit behind the field, and the area as it is written.
-pub fn write(kind: usize, bytes: &[u8], out: &mut [u8; 4096]) -> Answer {
-    let n = record::two(bytes, 12);
-    let area = record::part(bytes, 14, n);
-    answer::lay(out, area);
-    let told = write_laid(kind, bytes, out, area.len());
-    let length = answer::written(out, told, area);
-    Answer {
-        from: 14 + n,
-        length,
-    }
-}
-
-// Writes the field into the area that is laid out, which has n bytes.
-fn write_laid(kind: usize, bytes: &[u8], out: &mut [u8], n: usize) -> Told {
-    if out.len() < 3 {
-        return told(Written::Size);
-    }
-    if out.len() - 3 < n {
-        return told(Written::Size);
-    }
-    told(put(kind, bytes, &mut out[3..3 + n]))
-}
-
-fn put(kind: usize, bytes: &[u8], area: &mut [u8]) -> Written {
+// Kinds 6, 7 and 8: start, width and value.
+pub fn put(kind: usize, bytes: &[u8], area: &mut [u8]) -> Written {
     let start = record::two(bytes, 1);
     let width = record::one(bytes, 3);
     match kind {
@@ -104,12 +77,13 @@ fn signed_at(bytes: &[u8], i: usize) -> i64 {
     z
 }
 
-fn told(written: Written) -> Told {
+// The head of a write's answer.
+pub fn told(written: Written) -> usize {
     match written {
-        Written::End(next) => answer::tell(0, next),
-        Written::Width => answer::tell(2, 0),
-        Written::Range => answer::tell(3, 0),
-        Written::Room(width) => answer::tell(8, width),
-        Written::Size => answer::tell(9, 0),
+        Written::End(next) => answer::head(0, next),
+        Written::Width => answer::head(2, 0),
+        Written::Range => answer::head(3, 0),
+        Written::Room(width) => answer::head(8, width),
+        Written::Size => answer::head(9, 0),
     }
 }

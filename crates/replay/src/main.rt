@@ -1,6 +1,6 @@
 // Replays recorded answers: each line of answers.hex holds an input, and what was answered to it.
 //
-// Each input is put to the library, what it answers is laid out as the record lays out its own, and the two are compared.
+// Each input is put to the library, and what it answers is compared with what the record says.
 mod answer;
 mod biases;
 mod fields;
@@ -10,6 +10,7 @@ mod lines;
 mod record;
 mod tables;
 mod tally;
+mod writing;
 
 fn main() {
     let fd = os::open_read(b"answers.hex");

@@ -3,20 +3,24 @@ ghost use mathlib.Core.Path.{_≡_};
 ghost use Prim.Native.Nat.{_<_, _^_};
 use std::num;
 
+pub fn byte(bytes: &[u8], i: usize) -> u8 {
+    if i < bytes.len() { bytes[i] } else { 0 }
+}
+
 pub fn one(bytes: &[u8], i: usize) -> usize
     ensures { λ r. ⌜ r < 256 ⌝ }
 {
     wide(byte(bytes, i))
 }
 
-pub fn byte(bytes: &[u8], i: usize) -> u8 {
-    if i < bytes.len() { bytes[i] } else { 0 }
-}
-
 pub fn two(bytes: &[u8], i: usize) -> usize
     ensures { λ r. ⌜ r < 65536 ⌝ }
 {
     one(bytes, i) * 256 + one(bytes, num::wrapping_add_usize(i, 1))
+}
+
+pub fn three(bytes: &[u8], i: usize) -> usize {
+    one(bytes, i) * 65536 + two(bytes, num::wrapping_add_usize(i, 1))
 }
 
 pub fn four(bytes: &[u8], i: usize) -> u64
@@ -54,7 +58,15 @@ pub fn part(bytes: &[u8], from: usize, n: usize) -> &[u8] {
     &bytes[from..from + n]
 }
 
-fn wide(x: u8) -> usize
+// The bytes from a place on.
+pub fn rest(bytes: &[u8], from: usize) -> &[u8] {
+    if bytes.len() < from {
+        return &bytes[0..0];
+    }
+    &bytes[from..bytes.len()]
+}
+
+pub fn wide(x: u8) -> usize
     ensures { λ r. ⌜ (r ≡ x) × (r < 256) ⌝ }
 {
     x as usize

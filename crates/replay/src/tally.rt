@@ -4,46 +4,37 @@ use crate::judge;
 use crate::record;
 use std::num;
 
-// Counts the record of a line, and says so if the library answers something else.
-pub fn count(bytes: &[u8], line: u64, counts: &mut [u64; 38]) {
+// Counts the record of a line.
+pub fn count(bytes: &[u8], counts: &mut [u64; 38]) {
     let kind = kind_of(bytes, counts[0]);
-    if agrees(kind, bytes, counts) {
-        add(counts, kind, 1);
+    if kind == 0 {
+        let agrees = is_end(bytes, total(counts, 0));
+        add(counts, 0, agrees);
         return;
     }
-    add(counts, kind, 0);
-    differs(line);
+    add(counts, kind, judge::agrees(kind, bytes));
 }
 
 // Counts a line that is no record.
-pub fn unreadable(line: u64, counts: &mut [u64; 38]) {
-    add(counts, 18, 0);
-    differs(line);
+pub fn unreadable(counts: &mut [u64; 38]) {
+    add(counts, 18, false);
 }
 
 // The kind of a record. None follows the end.
 fn kind_of(bytes: &[u8], ends: u64) -> usize {
-    let kind = record::one(bytes, 0);
     if ends > 0 {
         return 18;
     }
     if bytes.len() == 0 {
         return 18;
     }
-    if 17 < kind {
+    if 17 < bytes[0] {
         return 18;
     }
-    kind
+    bytes[0] as usize
 }
 
 // The end agrees where it says how many records are before it.
-fn agrees(kind: usize, bytes: &[u8], counts: &[u64; 38]) -> bool {
-    if kind == 0 {
-        return is_end(bytes, total(counts, 0));
-    }
-    judge::agrees(kind, bytes)
-}
-
 fn is_end(bytes: &[u8], records: u64) -> bool {
     if bytes.len() != 5 {
         return false;
@@ -51,13 +42,18 @@ fn is_end(bytes: &[u8], records: u64) -> bool {
     record::four(bytes, 1) == records
 }
 
-fn add(counts: &mut [u64; 38], kind: usize, agreeing: u64) {
+// Counts a line of a kind, and says so if the library answers something else.
+fn add(counts: &mut [u64; 38], kind: usize, agrees: bool) {
     if kind > 18 {
         return;
     }
     let i = kind * 2;
     counts[i] = num::wrapping_add_u64(counts[i], 1);
-    counts[i + 1] = num::wrapping_add_u64(counts[i + 1], agreeing);
+    if agrees {
+        counts[i + 1] = num::wrapping_add_u64(counts[i + 1], 1);
+        return;
+    }
+    differs(total(counts, 0));
 }
 
 // The sum over all kinds: of the records from place 0 on, of those that agree from place 1 on.

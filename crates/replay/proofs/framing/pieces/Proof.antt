@@ -1,43 +1,102 @@
 -- There are only so many turns. Assumes nothing.
+use mathlib.Core.Path.{_≡_, refl}
+use lib.ListN.{length}
 use borrow.Author.Needs.{needs}
 use Rattle.replay.proofs.framing.pieces.Statement.{statement}
 use Rattle.replay.proofs.framing.pieces.Tie as tie
 
 abbrev Inv-loop : tie.InvT-loop
-Inv-loop stream out₀ held₀ frame₀ now₀ turns₀ out held frame now turns = Unit {0}
+Inv-loop stream answer held₀ frame₀ count₀ offered₀ before₀ at₀ turns₀ held frame count offered before at turns = (length held ≡ 1029) × (length frame ≡ 1029)
 
 abbrev μ-loop : tie.MeasureT-loop
-μ-loop stream out₀ held₀ frame₀ now₀ turns₀ out held frame now turns = turns
+μ-loop stream answer held₀ frame₀ count₀ offered₀ before₀ at₀ turns₀ held frame count offered before at turns = turns
 
 fresh-requires : tie.Need-fresh-requires Inv-loop μ-loop
 fresh-requires c κs = search needs
 
 loop-holds : tie.Need-loop-holds Inv-loop μ-loop
-loop-holds c = tt
+loop-holds c = (refl, refl)
 
 sub-turns : tie.Need-sub-turns Inv-loop μ-loop
 sub-turns c = search needs
 
-offer-requires : tie.Need-offer-requires Inv-loop μ-loop
-offer-requires c κs = search needs
+slice-aggregate-feed : tie.Need-slice-aggregate-feed Inv-loop μ-loop
+slice-aggregate-feed c = search needs
 
-enum-known-next : tie.Need-enum-known-next Inv-loop μ-loop
-enum-known-next c = search needs
+next-requires : tie.Need-next-requires Inv-loop μ-loop
+next-requires c κs = search needs
+
+slice-aggregate-feed-2 : tie.Need-slice-aggregate-feed-2 Inv-loop μ-loop
+slice-aggregate-feed-2 c = search needs
+
+feed-requires : tie.Need-feed-requires Inv-loop μ-loop
+feed-requires c κs = search needs
+
+enum-known-length : tie.Need-enum-known-length Inv-loop μ-loop
+enum-known-length c = search needs
+
+wrapping-add-usize-requires : tie.Need-wrapping-add-usize-requires Inv-loop μ-loop
+wrapping-add-usize-requires c κs = search needs
+
+slice-aggregate-is-next : tie.Need-slice-aggregate-is-next Inv-loop μ-loop
+slice-aggregate-is-next c = search needs
+
+is-next-requires : tie.Need-is-next-requires Inv-loop μ-loop
+is-next-requires c κs = search needs
+
+returns : tie.Need-returns Inv-loop μ-loop
+returns c = search needs
+
+wrapping-add-usize-requires-2 : tie.Need-wrapping-add-usize-requires-2 Inv-loop μ-loop
+wrapping-add-usize-requires-2 c κs = search needs
+
+wrapping-add-usize-requires-3 : tie.Need-wrapping-add-usize-requires-3 Inv-loop μ-loop
+wrapping-add-usize-requires-3 c κs = search needs
+
+wrapping-add-usize-requires-4 : tie.Need-wrapping-add-usize-requires-4 Inv-loop μ-loop
+wrapping-add-usize-requires-4 c κs = search needs
 
 loop-less : tie.Need-loop-less Inv-loop μ-loop
 loop-less c = search needs
 
 loop-again : tie.Need-loop-again Inv-loop μ-loop
-loop-again c = tt
+loop-again c = (search needs, search needs)
 
-enum-known-length : tie.Need-enum-known-length Inv-loop μ-loop
-enum-known-length c = search needs
+enum-known-taken : tie.Need-enum-known-taken Inv-loop μ-loop
+enum-known-taken c = search needs
 
-returns : tie.Need-returns Inv-loop μ-loop
-returns c = search needs
+wrapping-add-usize-requires-5 : tie.Need-wrapping-add-usize-requires-5 Inv-loop μ-loop
+wrapping-add-usize-requires-5 c κs = search needs
+
+wrapping-add-usize-requires-6 : tie.Need-wrapping-add-usize-requires-6 Inv-loop μ-loop
+wrapping-add-usize-requires-6 c κs = search needs
+
+slice-aggregate-is-held : tie.Need-slice-aggregate-is-held Inv-loop μ-loop
+slice-aggregate-is-held c = search needs
+
+is-held-requires : tie.Need-is-held-requires Inv-loop μ-loop
+is-held-requires c κs = search needs
+
+is-end-requires : tie.Need-is-end-requires Inv-loop μ-loop
+is-end-requires c κs = search needs
 
 returns-2 : tie.Need-returns-2 Inv-loop μ-loop
 returns-2 c = search needs
+
+returns-3 : tie.Need-returns-3 Inv-loop μ-loop
+returns-3 c = search needs
+
+loop-less-2 : tie.Need-loop-less-2 Inv-loop μ-loop
+loop-less-2 c = search needs
+
+loop-again-2 : tie.Need-loop-again-2 Inv-loop μ-loop
+loop-again-2 c = (search needs, search needs)
+
+returns-4 : tie.Need-returns-4 Inv-loop μ-loop
+returns-4 c = search needs
+
+returns-5 : tie.Need-returns-5 Inv-loop μ-loop
+returns-5 c = search needs
 
 pub pieces-spec : {M : Type 1} → statement M
 pieces-spec =
@@ -48,10 +107,29 @@ pieces-spec =
     fresh-requires
     loop-holds
     sub-turns
-    offer-requires
-    enum-known-next
+    slice-aggregate-feed
+    next-requires
+    slice-aggregate-feed-2
+    feed-requires
+    enum-known-length
+    wrapping-add-usize-requires
+    slice-aggregate-is-next
+    is-next-requires
+    returns
+    wrapping-add-usize-requires-2
+    wrapping-add-usize-requires-3
+    wrapping-add-usize-requires-4
     loop-less
     loop-again
-    enum-known-length
-    returns
-    returns-2)
+    enum-known-taken
+    wrapping-add-usize-requires-5
+    wrapping-add-usize-requires-6
+    slice-aggregate-is-held
+    is-held-requires
+    is-end-requires
+    returns-2
+    returns-3
+    loop-less-2
+    loop-again-2
+    returns-4
+    returns-5)

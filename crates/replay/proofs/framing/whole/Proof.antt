@@ -12,10 +12,10 @@ use Rattle.replay.proofs.framing.whole.Statement.{statement}
 use Rattle.replay.proofs.framing.whole.Tie as tie
 
 abbrev Inv-loop : tie.InvT-loop
-Inv-loop stream out₀ from₀ at₀ out from at = from ≤ length stream
+Inv-loop stream answer from₀ at₀ from at = from ≤ length stream
 
 abbrev μ-loop : tie.MeasureT-loop
-μ-loop stream out₀ from₀ at₀ out from at = length stream - from
+μ-loop stream answer from₀ at₀ from at = length stream - from
 
 loop-holds : tie.Need-loop-holds Inv-loop μ-loop
 loop-holds c = omega arith
@@ -26,41 +26,47 @@ next-frame-requires c κs = search needs
 enum-known-place : tie.Need-enum-known-place Inv-loop μ-loop
 enum-known-place c = search needs
 
-found-requires : tie.Need-found-requires Inv-loop μ-loop
-found-requires c κs = search needs
+is-found-requires : tie.Need-is-found-requires Inv-loop μ-loop
+is-found-requires c κs = search needs
+
+returns : tie.Need-returns Inv-loop μ-loop
+returns c = search needs
 
 add-from : tie.Need-add-from Inv-loop μ-loop
 add-from c =
-    let a = c .before .before .before .before .before .before .before .before .args in
+    let a = c .before .before .before .before .before .before .before .before .before .args in
     let w = c .before .before .before .before .before .before .loop in
     let v = c .before .before .before .place .given in
     let x = finds rtcm (a .stream .now) rtcm-lawful (w .from) (w .inv) (v .0 .0) (v .0 .1 .0) (sym (c .before .before .before .before .before .next-frame .ensures) ∙ ap toldNext (v .1)) in
     record { fits = omega (arith, x .fits) }
 
+wrapping-add-usize-requires : tie.Need-wrapping-add-usize-requires Inv-loop μ-loop
+wrapping-add-usize-requires c κs = search needs
+
 loop-less : tie.Need-loop-less Inv-loop μ-loop
 loop-less c =
-    let a = c .before .before .before .before .before .before .before .before .args in
-    let w = c .before .before .before .before .before .before .loop in
-    let v = c .before .before .before .place .given in
-    let x = finds rtcm (a .stream .now) rtcm-lawful (w .from) (w .inv) (v .0 .0) (v .0 .1 .0) (sym (c .before .before .before .before .before .next-frame .ensures) ∙ ap toldNext (v .1)) in
+    let a = c .before .before .before .before .before .before .before .before .before .before .args in
+    let w = c .before .before .before .before .before .before .before .loop in
+    let v = c .before .before .before .before .place .given in
+    let x = finds rtcm (a .stream .now) rtcm-lawful (w .from) (w .inv) (v .0 .0) (v .0 .1 .0) (sym (c .before .before .before .before .before .before .next-frame .ensures) ∙ ap toldNext (v .1)) in
     omega (arith, x .count, x .some, x .fits)
 
 loop-again : tie.Need-loop-again Inv-loop μ-loop
 loop-again c =
-    let a = c .before .before .before .before .before .before .before .before .args in
-    let w = c .before .before .before .before .before .before .loop in
-    let v = c .before .before .before .place .given in
-    let x = finds rtcm (a .stream .now) rtcm-lawful (w .from) (w .inv) (v .0 .0) (v .0 .1 .0) (sym (c .before .before .before .before .before .next-frame .ensures) ∙ ap toldNext (v .1)) in
+    let a = c .before .before .before .before .before .before .before .before .before .before .args in
+    let w = c .before .before .before .before .before .before .before .loop in
+    let v = c .before .before .before .before .place .given in
+    let x = finds rtcm (a .stream .now) rtcm-lawful (w .from) (w .inv) (v .0 .0) (v .0 .1 .0) (sym (c .before .before .before .before .before .before .next-frame .ensures) ∙ ap toldNext (v .1)) in
     x .fits
 
 enum-known-place-2 : tie.Need-enum-known-place-2 Inv-loop μ-loop
 enum-known-place-2 c = search needs
 
-ended-requires : tie.Need-ended-requires Inv-loop μ-loop
-ended-requires c κs = search needs
+is-end-requires : tie.Need-is-end-requires Inv-loop μ-loop
+is-end-requires c κs = search needs
 
-returns : tie.Need-returns Inv-loop μ-loop
-returns c = search needs
+returns-2 : tie.Need-returns-2 Inv-loop μ-loop
+returns-2 c = search needs
 
 pub whole-spec : {M : Type 1} → statement M
 whole-spec =
@@ -71,10 +77,12 @@ whole-spec =
     loop-holds
     next-frame-requires
     enum-known-place
-    found-requires
+    is-found-requires
+    returns
     add-from
+    wrapping-add-usize-requires
     loop-less
     loop-again
     enum-known-place-2
-    ended-requires
-    returns)
+    is-end-requires
+    returns-2)
