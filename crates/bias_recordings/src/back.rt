@@ -8,8 +8,10 @@ use messages::answer::BlockWritten;
 use messages::write1059;
 use messages::write1230;
 
-// Whether the n records, written from bit `start` on, end at bit `end` and have the bits that the data have there.
-pub fn is_same_1059(
+// Whether the n records of a block, written from bit `start` on, end at bit `end` and have the bits that the data have
+// there.
+pub fn is_same(
+    number: u64,
     data: &[u8],
     start: usize,
     end: usize,
@@ -19,15 +21,30 @@ pub fn is_same_1059(
     biases: &[i16; 422],
 ) -> bool {
     let mut area = turned(data);
-    let written = write_1059(&mut area, data.len(), start, n, satellites, signals, biases);
-    is_same(written, data, &area, start, end)
+    let written = write(
+        number,
+        &mut area,
+        data.len(),
+        start,
+        first(satellites, n),
+        first(signals, n),
+        first_biases(biases, n),
+    );
+    let BlockWritten::End(next) = written else {
+        return false;
+    };
+    if next != end {
+        return false;
+    }
+    has_just(data, &area, start, end)
 }
 
-fn write_1059(
+// Writes the block into the first bytes of the area.
+fn write(
+    number: u64,
     area: &mut [u8],
     length: usize,
     start: usize,
-    n: usize,
     satellites: &[u8],
     signals: &[u8],
     biases: &[i16],
@@ -35,45 +52,10 @@ fn write_1059(
     if area.len() < length {
         return BlockWritten::Size;
     }
-    write1059::write(
-        &mut area[0..length],
-        start,
-        first(satellites, n),
-        first(signals, n),
-        first_biases(biases, n),
-    )
-}
-
-pub fn is_same_1230(
-    data: &[u8],
-    start: usize,
-    end: usize,
-    n: usize,
-    signals: &[u8; 4],
-    biases: &[i16; 4],
-) -> bool {
-    let mut area = turned(data);
-    let written = write_1230(&mut area, data.len(), start, n, signals, biases);
-    is_same(written, data, &area, start, end)
-}
-
-fn write_1230(
-    area: &mut [u8],
-    length: usize,
-    start: usize,
-    n: usize,
-    signals: &[u8],
-    biases: &[i16],
-) -> BlockWritten {
-    if area.len() < length {
-        return BlockWritten::Size;
+    if number == 1059 {
+        return write1059::write(&mut area[0..length], start, satellites, signals, biases);
     }
-    write1230::write(
-        &mut area[0..length],
-        start,
-        first(signals, n),
-        first_biases(biases, n),
-    )
+    write1230::write(&mut area[0..length], start, signals, biases)
 }
 
 // The data with every bit turned, and zeros behind them.
@@ -92,22 +74,6 @@ fn turned(data: &[u8]) -> [u8; 1023]
 
 fn turned_byte(x: u8) -> u8 {
     255 - x
-}
-
-fn is_same(
-    written: BlockWritten,
-    data: &[u8],
-    area: &[u8; 1023],
-    start: usize,
-    end: usize,
-) -> bool {
-    let BlockWritten::End(next) = written else {
-        return false;
-    };
-    if next != end {
-        return false;
-    }
-    has_just(data, area, start, end)
 }
 
 // Whether the bits of the area from one place to another are those of the data, and no other bit is.

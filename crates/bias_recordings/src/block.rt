@@ -7,12 +7,9 @@ use messages::answer::BlockRead;
 use messages::read1059;
 use messages::read1230;
 
-// The header of the 1059 messages of rtcm3-1.bin is that of an old draft, and has 42 bits.
-const START_1059: usize = 42;
-
-const START_1230: usize = 28;
-
-pub fn show_1059(
+// Shows the block of message `number`, 1059 or 1230. The records of 1230 have no satellite.
+pub fn show(
+    number: u64,
     place: u64,
     data: &[u8],
     counts: Counts,
@@ -22,47 +19,60 @@ pub fn show_1059(
     let mut satellites = [0u8; 422];
     let mut signals = [0u8; 422];
     let mut biases = [0i16; 422];
-    match read1059::read(data, START_1059, &mut satellites, &mut signals, &mut biases) {
-        BlockRead::Records { count, end } => {
-            rows::with_satellites(place, count, &satellites, &signals, &biases, out, at);
-            let same = back::is_same_1059(
-                data,
-                START_1059,
-                end,
-                count,
-                &satellites,
-                &signals,
-                &biases,
-            );
-            counts::with(counts, is_ascending(&satellites, count), same)
-        }
-        _ => {
-            rows::word(place, b"refused\n", out, at);
-            counts
-        }
-    }
+    let start = start_of(number);
+    let told = read(
+        number,
+        data,
+        start,
+        &mut satellites,
+        &mut signals,
+        &mut biases,
+    );
+    let BlockRead::Records { count, end } = told else {
+        rows::word(place, b"refused\n", out, at);
+        return counts;
+    };
+    rows::show(
+        number,
+        place,
+        count,
+        &satellites,
+        &signals,
+        &biases,
+        out,
+        at,
+    );
+    let same = back::is_same(
+        number,
+        data,
+        start,
+        end,
+        count,
+        &satellites,
+        &signals,
+        &biases,
+    );
+    counts::with(counts, is_ascending(&satellites, count), same)
 }
 
-pub fn show_1230(
-    place: u64,
+// The data bit at which a block starts. The header of the 1059 messages of rtcm3-1.bin is that of an old draft, and has 42
+// bits.
+fn start_of(number: u64) -> usize {
+    if number == 1059 { 42 } else { 28 }
+}
+
+fn read(
+    number: u64,
     data: &[u8],
-    counts: Counts,
-    out: &mut [u8; 65536],
-    at: &mut usize,
-) -> Counts {
-    let mut signals = [0u8; 4];
-    let mut biases = [0i16; 4];
-    match read1230::read(data, START_1230, &mut signals, &mut biases) {
-        BlockRead::Records { count, end } => {
-            rows::without(place, count, &signals, &biases, out, at);
-            let same = back::is_same_1230(data, START_1230, end, count, &signals, &biases);
-            counts::with(counts, false, same)
-        }
-        _ => {
-            rows::word(place, b"refused\n", out, at);
-            counts
-        }
+    start: usize,
+    satellites: &mut [u8; 422],
+    signals: &mut [u8; 422],
+    biases: &mut [i16; 422],
+) -> BlockRead {
+    if number == 1059 {
+        return read1059::read(data, start, satellites, signals, biases);
     }
+    read1230::read(data, start, signals, biases)
 }
 
 // Whether none of the first n satellites is below the one before it.

@@ -1,6 +1,5 @@
 // What is counted of blocks.
-use printing::text;
-use printing::unsigned;
+use printing::phrase;
 use std::num;
 
 // Blocks; those whose satellites ascend; those written back to the same bits.
@@ -72,9 +71,6 @@ pub fn print(of1059: Counts, of1230: Counts, out: &mut [u8; 65536], at: &mut usi
 }
 
 fn line(name: &[u8], n: u64, all: u64, out: &mut [u8; 65536], at: &mut usize) {
-    text(out, at, name);
-    unsigned(out, at, n, 0);
-    text(out, at, b" of ");
-    unsigned(out, at, all, 0);
-    text(out, at, b"\n");
+    phrase(out, at, name, n, 0, b" of ");
+    phrase(out, at, b"", all, 0, b"\n");
 }

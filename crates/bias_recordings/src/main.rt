@@ -8,11 +8,10 @@ mod rows;
 
 use counts::Counts;
 use frames::frame;
-use frames::frame::Checked;
-use frames::frame::Number;
 use frames::scan;
 use frames::scan::Next;
 use printing::text;
+use reading::arguments;
 
 fn main() {
     let mut out = io::large_buffer();
@@ -24,18 +23,21 @@ fn main() {
 fn show_all(out: &mut [u8; 65536], at: &mut usize) {
     text(out, at, b"place\tsatellite\tsignal\tbias\n");
     let first = show(b"rtcm3-1.bin", 1059, out, at);
-    text(out, at, b"rtcm3.bndm.bin: place\tsignal\tbias\n");
-    let second = show(b"rtcm3.bndm.bin", 1230, out, at);
-    text(out, at, b"ublox-f9p-rtcm.bin: place\tsignal\tbias\n");
-    let third = show(b"ublox-f9p-rtcm.bin", 1230, out, at);
+    let second = show_1230(b"rtcm3.bndm.bin", out, at);
+    let third = show_1230(b"ublox-f9p-rtcm.bin", out, at);
     counts::print(first, counts::joined(second, third), out, at);
 }
 
+fn show_1230(name: &[u8], out: &mut [u8; 65536], at: &mut usize) -> Counts {
+    text(out, at, name);
+    text(out, at, b": place\tsignal\tbias\n");
+    show(name, 1230, out, at)
+}
+
 // Shows the biases of a recording's messages of one number. The recording has at most 65,536 bytes.
-fn show(name: &[u8], number: u16, out: &mut [u8; 65536], at: &mut usize) -> Counts {
-    let fd = os::open_read(name);
+fn show(name: &[u8], number: u64, out: &mut [u8; 65536], at: &mut usize) -> Counts {
+    let fd = arguments::open(name);
     if fd < 0 {
-        os::fail(name);
         return counts::none();
     }
     let mut bytes = io::large_buffer();
@@ -44,7 +46,7 @@ fn show(name: &[u8], number: u16, out: &mut [u8; 65536], at: &mut usize) -> Coun
     show_frames(&bytes[..n], number, out, at)
 }
 
-fn show_frames(bytes: &[u8], number: u16, out: &mut [u8; 65536], at: &mut usize) -> Counts {
+fn show_frames(bytes: &[u8], number: u64, out: &mut [u8; 65536], at: &mut usize) -> Counts {
     let mut counts = counts::none();
     let mut from: usize = 0;
     loop {
@@ -64,33 +66,20 @@ fn show_frames(bytes: &[u8], number: u16, out: &mut [u8; 65536], at: &mut usize)
 fn show_message(
     place: usize,
     bytes: &[u8],
-    number: u16,
+    number: u64,
     counts: Counts,
     out: &mut [u8; 65536],
     at: &mut usize,
 ) -> Counts {
-    if number_of(bytes) != number {
+    if reading::number_of(bytes, bytes.len()) != number {
         return counts;
     }
-    let data = frame::data_part(bytes);
-    if number == 1059 {
-        return block::show_1059(place as u64, data, counts, out, at);
-    }
-    block::show_1230(place as u64, data, counts, out, at)
-}
-
-// The message number of the frame; 0 if it has none.
-fn number_of(bytes: &[u8]) -> u16 {
-    match frame::check(bytes) {
-        Checked::Frame {
-            length: _,
-            data: _,
-            number,
-            sum: _,
-        } => match number {
-            Number::Is(n) => n,
-            Number::Absent => 0,
-        },
-        _ => 0,
-    }
+    block::show(
+        number,
+        place as u64,
+        frame::data_part(bytes),
+        counts,
+        out,
+        at,
+    )
 }

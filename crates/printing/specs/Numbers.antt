@@ -27,6 +27,10 @@ addSign false n g = add (blank n) g
 abbrev pub Signed : Amount → ℕ → Gathered → Gathered → Type 0
 Signed a width g h = (ds : List ℕ) × Decimal (a .size) ds × (h ≡ add ds (addSign (a .negative) (width - length ds) g))
 
+-- words, a number with blanks before it, and words
+abbrev pub Phrase : List ℕ → ℕ → ℕ → List ℕ → Gathered → Gathered → Type 0
+Phrase before n width behind g h = (k : Gathered) × Signed (record { negative = false; size = n }) width (add before g) k × (h ≡ add behind k)
+
 -- an amount of hundredths: the whole number with its sign, a point, and the last two digits
 abbrev pub Hundredths : Amount → ℕ → Gathered → Gathered → Type 0
 Hundredths a width g h =

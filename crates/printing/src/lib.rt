@@ -14,6 +14,7 @@ mod number;
 pub use number::Amount;
 pub use number::amount_of;
 pub use number::hundredths;
+pub use number::phrase;
 pub use number::signed;
 pub use number::unsigned;
 

@@ -4,7 +4,7 @@ ghost use mathlib.Core.Bool.{false};
 ghost use Prim.Native.Nat.{_-_};
 ghost use Rattle.io.specs.Digits.{digits};
 ghost use Rattle.printing.specs.Gathered.{gathered, add};
-ghost use Rattle.printing.specs.Numbers.{amountOf, addSign, Signed, Hundredths};
+ghost use Rattle.printing.specs.Numbers.{amountOf, addSign, Signed, Phrase, Hundredths};
 use crate::blanks;
 use crate::text;
 
@@ -53,6 +53,22 @@ pub fn signed(out: &mut [u8; 65536], at: &mut usize, amount: Amount, width: usiz
     let k = io::decimal(amount.size, &mut digits);
     sign(out, at, amount.negative, less(width, k));
     text(out, at, &digits[..k]);
+}
+
+// Adds words, the number, and words.
+pub fn phrase(
+    out: &mut [u8; 65536],
+    at: &mut usize,
+    before: &[u8],
+    n: u64,
+    width: usize,
+    behind: &[u8],
+)
+    ensures { λ _. ⌜ Phrase (now (before .entry)) n width (now (behind .entry)) (gathered (now (out .entry)) (now (at .entry))) (gathered (now (out .exit)) (now (at .exit))) ⌝ }
+{
+    text(out, at, before);
+    unsigned(out, at, n, width);
+    text(out, at, behind);
 }
 
 // Adds an amount of hundredths as a number with two decimals.

@@ -1,3 +1,5 @@
 pub mod SumLaws
 pub mod KeepLaws
 pub mod AccountLaws
+pub mod NumberLaws
+pub mod ArgumentLaws

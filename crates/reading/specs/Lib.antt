@@ -1,1 +1,3 @@
 pub mod Account
+pub mod Arguments
+pub mod Number

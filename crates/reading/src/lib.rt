@@ -7,6 +7,11 @@ use frames::scanner;
 use frames::scanner::Fed;
 use std::num;
 
+pub mod arguments;
+mod number;
+
+pub use number::number_of;
+
 // How far a recording is read. Each byte is in a frame, skipped, held, or in the part of the piece from `from` to `to`,
 // which is not taken yet. Sums go round at 2^64.
 pub struct Account {

@@ -3,11 +3,10 @@ mod options;
 mod table;
 
 use frames::frame;
-use frames::frame::Checked;
-use frames::frame::Number;
-use options::Kind;
 use options::Start;
 use reading::Step;
+use reading::arguments;
+use reading::arguments::Kind;
 use table::Tally;
 
 fn main() {
@@ -17,7 +16,7 @@ fn main() {
         return;
     }
     if asked.unknown != 0 {
-        options::unknown(asked.unknown);
+        arguments::unknown(b"rtcm_biases", asked.unknown);
         return;
     }
     if asked.wrong {
@@ -25,7 +24,7 @@ fn main() {
         return;
     }
     if asked.file == 0 {
-        options::no_file();
+        arguments::no_file(b"rtcm_biases");
         return;
     }
     show_all();
@@ -46,26 +45,22 @@ fn show_all() {
 
 // Shows what argument i names, and hands back where blocks start from there on.
 fn show_argument(i: usize, start: Start, out: &mut [u8; 65536], at: &mut usize) -> Start {
-    match options::kind_at(i) {
-        Kind::File => {
-            show_file(i, start, out, at);
-            start
-        }
-        Kind::Input => {
-            show_open(0, b"standard input", start, out, at);
-            start
-        }
-        Kind::Number => options::start_at(i),
-        _ => start,
+    if options::is_number(i) {
+        return options::start_at(i);
     }
+    match options::kind_at(i) {
+        Kind::File => show_file(i, start, out, at),
+        Kind::Input => show_open(0, b"standard input", start, out, at),
+        _ => {}
+    }
+    start
 }
 
 fn show_file(i: usize, start: Start, out: &mut [u8; 65536], at: &mut usize) {
     let mut path = io::buffer();
     let n = os::arg(i, &mut path);
-    let fd = os::open_read(&path[..n]);
+    let fd = arguments::open(&path[..n]);
     if fd < 0 {
-        os::fail(&path[..n]);
         return;
     }
     show_open(fd, &path[..n], start, out, at);
@@ -94,10 +89,10 @@ fn show(fd: i32, name: &[u8], start: Start, out: &mut [u8; 65536], at: &mut usiz
         match reading::next(fd, &mut held, &mut piece, &mut bytes, account) {
             Step::Frame {
                 place,
-                length: _,
+                length,
                 account: a,
             } => {
-                tally = show_frame(&bytes, place, start, tally, out, at);
+                tally = show_frame(&bytes, length, place, start, tally, out, at);
                 account = a;
             }
             Step::Piece(a) => {
@@ -105,7 +100,7 @@ fn show(fd: i32, name: &[u8], start: Start, out: &mut [u8; 65536], at: &mut usiz
                 account = a;
             }
             Step::End(a) => {
-                options::empty(name, a);
+                arguments::empty(name, a);
                 table::closing(a, tally, out, at);
                 return;
             }
@@ -121,42 +116,34 @@ fn show(fd: i32, name: &[u8], start: Start, out: &mut [u8; 65536], at: &mut usiz
 // Shows the frame, if its message is 1059 or 1230.
 fn show_frame(
     bytes: &[u8; 1029],
+    length: usize,
     place: u64,
     start: Start,
     tally: Tally,
     out: &mut [u8; 65536],
     at: &mut usize,
 ) -> Tally {
-    match number_of(bytes) {
-        1059 => table::block(
-            1059,
-            frame::data_part(bytes),
-            place,
-            options::bit(start, 61),
-            tally,
-            out,
-            at,
-        ),
-        1230 => table::block(
-            1230,
-            frame::data_part(bytes),
-            place,
-            options::bit(start, 28),
-            tally,
-            out,
-            at,
-        ),
-        _ => tally,
+    let number = reading::number_of(bytes, length);
+    let usual = usual_start(number);
+    if usual == 0 {
+        return tally;
     }
+    table::block(
+        number,
+        frame::data_part(bytes),
+        place,
+        options::bit(start, usual),
+        tally,
+        out,
+        at,
+    )
 }
 
-// The message number of the frame, or 4,096 if it has none.
-fn number_of(bytes: &[u8]) -> u16 {
-    let Checked::Frame { number, .. } = frame::check(bytes) else {
-        return 4096;
-    };
+// The data bit at which the block of a message starts as a rule; 0 for a message without one.
+fn usual_start(number: u64) -> usize {
     match number {
-        Number::Is(n) => n,
-        Number::Absent => 4096,
+        1059 => 61,
+        1230 => 28,
+        _ => 0,
     }
 }

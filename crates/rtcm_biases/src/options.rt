@@ -1,18 +1,8 @@
 // What the arguments ask for, and what is said to the user.
-use check::same;
 use libc::STDERR_FILENO;
 use libc::STDOUT_FILENO;
-use reading::Account;
-
-// What an argument is. An option begins with `-`; `-` alone is standard input; the word behind `--start` is its number.
-pub enum Kind {
-    Help,
-    Start,
-    Number,
-    Unknown,
-    Input,
-    File,
-}
+use reading::arguments;
+use reading::arguments::Kind;
 
 // Where a block starts: at its usual data bit, or at the one that is asked for.
 pub enum Start {
@@ -39,21 +29,22 @@ pub fn all() -> Asked {
     let count = os::arg_count();
     let mut i: usize = 1;
     while i < count {
-        match kind_at(i) {
-            Kind::Help => {
-                help = true;
-            }
-            Kind::Start => {
-                wrong = true;
-            }
-            Kind::Number => {
-                wrong = is_wrong(start_at(i));
-            }
-            Kind::Unknown => {
-                unknown = i;
-            }
-            _ => {
-                file = i;
+        if is_number(i) {
+            wrong = is_wrong(start_at(i));
+        } else {
+            match kind_at(i) {
+                Kind::Help => {
+                    help = true;
+                }
+                Kind::Own => {
+                    wrong = true;
+                }
+                Kind::Unknown => {
+                    unknown = i;
+                }
+                _ => {
+                    file = i;
+                }
             }
         }
         i += 1;
@@ -73,45 +64,22 @@ fn is_wrong(start: Start) -> bool {
     }
 }
 
-// What argument i is.
-pub fn kind_at(i: usize) -> Kind {
-    if 1 < i {
-        if is_start(i - 1) {
-            return Kind::Number;
-        }
-    }
-    let mut word = io::buffer();
-    let n = os::arg(i, &mut word);
-    kind_of(&word[..n])
-}
-
-fn is_start(i: usize) -> bool {
-    let mut word = io::buffer();
-    let n = os::arg(i, &mut word);
-    same(&word[..n], b"--start")
-}
-
-fn kind_of(word: &[u8]) -> Kind {
-    if same(word, b"--help") {
-        return Kind::Help;
-    }
-    if same(word, b"--start") {
-        return Kind::Start;
-    }
-    if same(word, b"-") {
-        return Kind::Input;
-    }
-    if begins_with_dash(word) {
-        return Kind::Unknown;
-    }
-    Kind::File
-}
-
-fn begins_with_dash(word: &[u8]) -> bool {
-    if word.len() == 0 {
+// Whether argument i is the number of a --start, which is the word before it.
+pub fn is_number(i: usize) -> bool {
+    if i < 2 {
         return false;
     }
-    word[0] == b'-'
+    match kind_at(i - 1) {
+        Kind::Own => true,
+        _ => false,
+    }
+}
+
+// What argument i is. The program's own option is --start.
+pub fn kind_at(i: usize) -> Kind {
+    let mut word = io::buffer();
+    let n = os::arg(i, &mut word);
+    arguments::kind_of(&word[..n], b"--start")
 }
 
 // The data bit that argument i names.
@@ -168,35 +136,9 @@ A signal number that is reserved stands in brackets.
     );
 }
 
-pub fn unknown(i: usize) {
-    let mut word = io::buffer();
-    let n = os::arg(i, &mut word);
-    io::write_all(STDERR_FILENO, b"rtcm_biases: no such option: ");
-    io::write_all(STDERR_FILENO, &word[..n]);
-    io::write_all(
-        STDERR_FILENO,
-        b" (rtcm_biases --help lists them; a file is named with ./ before its dash)\n",
-    );
-}
-
 pub fn wrong_start() {
     io::write_all(
         STDERR_FILENO,
         b"rtcm_biases: --start takes the number of a data bit, as --start 61; rtcm_biases --help says more\n",
     );
-}
-
-pub fn no_file() {
-    io::write_all(
-        STDERR_FILENO,
-        b"rtcm_biases: name a file, or - for standard input; rtcm_biases --help says more\n",
-    );
-}
-
-// Says so if nothing was there to read.
-pub fn empty(name: &[u8], account: Account) {
-    if account.bytes == 0 {
-        io::write_all(STDERR_FILENO, name);
-        io::write_all(STDERR_FILENO, b": is empty\n");
-    }
 }

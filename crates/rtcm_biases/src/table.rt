@@ -6,6 +6,7 @@ use messages::signals;
 use messages::signals::SignalFound;
 use messages::signals1059;
 use printing::Amount;
+use printing::phrase;
 use printing::text;
 use printing::unsigned;
 use reading::Account;
@@ -28,7 +29,7 @@ pub fn opening(name: &[u8], account: Account, out: &mut [u8; 65536], at: &mut us
 
 // The block of message `number`, 1059 or 1230, from data bit `start` on.
 pub fn block(
-    number: u16,
+    number: u64,
     data: &[u8],
     place: u64,
     start: usize,
@@ -58,7 +59,7 @@ pub fn block(
 
 // The records of 1230 have no satellite.
 fn read(
-    number: u16,
+    number: u64,
     data: &[u8],
     start: usize,
     satellites: &mut [u8; 422],
@@ -72,10 +73,8 @@ fn read(
 }
 
 // The head of a block: its place, and how many records it has or why it is refused.
-fn heading(number: u16, place: u64, answer: BlockRead, out: &mut [u8; 65536], at: &mut usize) {
-    text(out, at, b"  message ");
-    unsigned(out, at, number as u64, 0);
-    text(out, at, b" at byte ");
+fn heading(number: u64, place: u64, answer: BlockRead, out: &mut [u8; 65536], at: &mut usize) {
+    phrase(out, at, b"  message ", number, 0, b" at byte ");
     unsigned(out, at, place, 0);
     match answer {
         BlockRead::Records { count, end: _ } => told(b": ", count, b" biases\n", out, at),
@@ -86,14 +85,12 @@ fn heading(number: u16, place: u64, answer: BlockRead, out: &mut [u8; 65536], at
 }
 
 fn told(before: &[u8], n: usize, behind: &[u8], out: &mut [u8; 65536], at: &mut usize) {
-    text(out, at, before);
-    unsigned(out, at, n as u64, 0);
-    text(out, at, behind);
+    phrase(out, at, before, n as u64, 0, behind);
 }
 
 // The rows of the first `count` records, under the heads of their columns.
 fn rows(
-    number: u16,
+    number: u64,
     satellites: &[u8; 422],
     signals: &[u8; 422],
     biases: &[i16; 422],
@@ -114,7 +111,7 @@ fn rows(
     }
 }
 
-fn satellite(number: u16, satellite: u8, out: &mut [u8; 65536], at: &mut usize) {
+fn satellite(number: u64, satellite: u8, out: &mut [u8; 65536], at: &mut usize) {
     if number == 1059 {
         unsigned(out, at, satellite as u64, 13);
         return;
@@ -123,7 +120,7 @@ fn satellite(number: u16, satellite: u8, out: &mut [u8; 65536], at: &mut usize) 
 }
 
 // The signal of a record: message 1059 has a table of its own, 1230 that of GLONASS.
-fn signal_of(number: u16, signal: u8) -> SignalFound {
+fn signal_of(number: u64, signal: u8) -> SignalFound {
     if number == 1059 {
         return signals1059::signal_of_1059(1, signal as u32);
     }
@@ -151,20 +148,18 @@ fn bracket(number: u8, out: &mut [u8; 65536], at: &mut usize) {
     if number < 10 {
         text(out, at, b" ");
     }
-    text(out, at, b"    (");
-    unsigned(out, at, number as u64, 0);
-    text(out, at, b")");
+    phrase(out, at, b"    (", number as u64, 0, b")");
 }
 
 // The raw number and the metres of a row.
-fn values(number: u16, raw: Amount, out: &mut [u8; 65536], at: &mut usize) {
+fn values(number: u64, raw: Amount, out: &mut [u8; 65536], at: &mut usize) {
     printing::signed(out, at, raw, 10);
     printing::hundredths(out, at, hundredths_of(number, raw), 10);
     text(out, at, b"\n");
 }
 
 // A bias of 1059 is in 0.01 m, one of 1230 in 0.02 m.
-fn hundredths_of(number: u16, raw: Amount) -> Amount {
+fn hundredths_of(number: u64, raw: Amount) -> Amount {
     if number == 1059 {
         return raw;
     }
@@ -194,11 +189,8 @@ pub fn closing(account: Account, tally: Tally, out: &mut [u8; 65536], at: &mut u
     if account.bytes == 0 {
         return;
     }
-    text(out, at, b"  ");
-    unsigned(out, at, tally.read, 0);
-    text(out, at, b" blocks read, ");
-    unsigned(out, at, tally.refused, 0);
-    text(out, at, b" refused\n\n");
+    phrase(out, at, b"  ", tally.read, 0, b" blocks read, ");
+    phrase(out, at, b"", tally.refused, 0, b" refused\n\n");
 }
 
 fn one_read(tally: Tally) -> Tally {

@@ -4,9 +4,10 @@ ghost use Rattle.reading.specs.Account.{Right};
 mod options;
 mod table;
 
-use options::Kind;
 use reading::Account;
 use reading::Step;
+use reading::arguments;
+use reading::arguments::Kind;
 
 fn main() {
     let asked = options::all();
@@ -15,11 +16,11 @@ fn main() {
         return;
     }
     if asked.unknown != 0 {
-        options::unknown(asked.unknown);
+        arguments::unknown(b"rtcm_scan", asked.unknown);
         return;
     }
     if asked.file == 0 {
-        options::no_file();
+        arguments::no_file(b"rtcm_scan");
         return;
     }
     scan_all(asked.quiet);
@@ -53,9 +54,8 @@ fn scan_argument(i: usize, quiet: bool, out: &mut [u8; 65536], at: &mut usize) {
 }
 
 fn scan_path(path: &[u8], quiet: bool, out: &mut [u8; 65536], at: &mut usize) {
-    let fd = os::open_read(path);
+    let fd = arguments::open(path);
     if fd < 0 {
-        os::fail(path);
         return;
     }
     scan_open(fd, path, quiet, out, at);
@@ -104,7 +104,7 @@ fn scan(
                 account = a;
             }
             Step::End(a) => {
-                options::empty(name, a);
+                arguments::empty(name, a);
                 return a;
             }
             Step::Failed(a) => {

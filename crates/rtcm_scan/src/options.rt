@@ -1,17 +1,7 @@
 // What the arguments ask for, and what is said to the user.
-use check::same;
-use libc::STDERR_FILENO;
 use libc::STDOUT_FILENO;
-use reading::Account;
-
-// What an argument is. An option begins with `-`; `-` alone is standard input.
-pub enum Kind {
-    Help,
-    Quiet,
-    Unknown,
-    Input,
-    File,
-}
+use reading::arguments;
+use reading::arguments::Kind;
 
 // What all the arguments ask for: `unknown` is the place of an option that is not known, and `file` that of a
 // recording, or 0.
@@ -34,7 +24,7 @@ pub fn all() -> Asked {
             Kind::Help => {
                 help = true;
             }
-            Kind::Quiet => {
+            Kind::Own => {
                 quiet = true;
             }
             Kind::Unknown => {
@@ -61,27 +51,9 @@ fn kind_at(i: usize) -> Kind {
     kind_of(&word[..n])
 }
 
+// What a word is. The program's own option is --quiet.
 pub fn kind_of(word: &[u8]) -> Kind {
-    if same(word, b"--help") {
-        return Kind::Help;
-    }
-    if same(word, b"--quiet") {
-        return Kind::Quiet;
-    }
-    if same(word, b"-") {
-        return Kind::Input;
-    }
-    if begins_with_dash(word) {
-        return Kind::Unknown;
-    }
-    Kind::File
-}
-
-fn begins_with_dash(word: &[u8]) -> bool {
-    if word.len() == 0 {
-        return false;
-    }
-    word[0] == b'-'
+    arguments::kind_of(word, b"--quiet")
 }
 
 pub fn help() {
@@ -97,30 +69,4 @@ for every byte: in frames, skipped, or held because a frame may begin there.
   --help   this text
 ",
     );
-}
-
-pub fn unknown(i: usize) {
-    let mut word = io::buffer();
-    let n = os::arg(i, &mut word);
-    io::write_all(STDERR_FILENO, b"rtcm_scan: no such option: ");
-    io::write_all(STDERR_FILENO, &word[..n]);
-    io::write_all(
-        STDERR_FILENO,
-        b" (rtcm_scan --help lists them; a file is named with ./ before its dash)\n",
-    );
-}
-
-pub fn no_file() {
-    io::write_all(
-        STDERR_FILENO,
-        b"rtcm_scan: name a file, or - for standard input; rtcm_scan --help says more\n",
-    );
-}
-
-// Says so if nothing was there to read.
-pub fn empty(name: &[u8], account: Account) {
-    if account.bytes == 0 {
-        io::write_all(STDERR_FILENO, name);
-        io::write_all(STDERR_FILENO, b": is empty\n");
-    }
 }

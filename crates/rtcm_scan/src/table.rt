@@ -1,6 +1,5 @@
 // The rows and the closing table of one recording.
-use frames::frame::Checked;
-use frames::frame::Number;
+use printing::phrase;
 use printing::text;
 use printing::unsigned;
 use reading::Account;
@@ -28,7 +27,7 @@ pub fn frame(
     bytes: &[u8; 1029],
     numbers: &mut [u64; 4097],
 ) {
-    let number = number_of(bytes);
+    let number = reading::number_of(bytes, length);
     count(numbers, number);
     if !quiet {
         unsigned(out, at, place, 12);
@@ -38,27 +37,17 @@ pub fn frame(
     }
 }
 
-// The message number of the frame, or 4,096 if it has none.
-fn number_of(bytes: &[u8]) -> usize {
-    let Checked::Frame { number, .. } = frames::frame::check(bytes) else {
-        return 4096;
-    };
-    match number {
-        Number::Is(n) => n as usize,
-        Number::Absent => 4096,
-    }
-}
-
-fn count(numbers: &mut [u64; 4097], number: usize) {
+fn count(numbers: &mut [u64; 4097], number: u64) {
     if number < 4097 {
-        numbers[number] = num::wrapping_add_u64(numbers[number], 1);
+        let i = number as usize;
+        numbers[i] = num::wrapping_add_u64(numbers[i], 1);
     }
 }
 
 // A message number, or `-` for 4,096.
-fn message(out: &mut [u8; 65536], at: &mut usize, number: usize) {
+fn message(out: &mut [u8; 65536], at: &mut usize, number: u64) {
     if number < 4096 {
-        unsigned(out, at, number as u64, 9);
+        unsigned(out, at, number, 9);
         return;
     }
     text(out, at, b"        -");
@@ -77,9 +66,7 @@ pub fn closing(out: &mut [u8; 65536], at: &mut usize, account: Account, numbers:
 }
 
 fn line(out: &mut [u8; 65536], at: &mut usize, name: &[u8], n: u64) {
-    text(out, at, name);
-    unsigned(out, at, n, 12);
-    text(out, at, b"\n");
+    phrase(out, at, name, n, 12, b"\n");
 }
 
 // The sum of the bytes in frames, skipped and held, which comes out at the bytes read.
@@ -88,29 +75,40 @@ fn sum(out: &mut [u8; 65536], at: &mut usize, account: Account) {
         num::wrapping_add_u64(account.framed, account.skipped),
         account.held as u64,
     );
-    text(out, at, b"  sum             ");
-    unsigned(out, at, sum, 12);
     if sum == account.bytes {
-        text(out, at, b"  every byte is accounted for\n");
+        phrase(
+            out,
+            at,
+            b"  sum             ",
+            sum,
+            12,
+            b"  every byte is accounted for\n",
+        );
         return;
     }
-    text(out, at, b"  IS NOT THE BYTES READ\n");
+    phrase(
+        out,
+        at,
+        b"  sum             ",
+        sum,
+        12,
+        b"  IS NOT THE BYTES READ\n",
+    );
 }
 
 fn by_number(out: &mut [u8; 65536], at: &mut usize, numbers: &[u64; 4097]) {
     let mut i: usize = 0;
     while i < 4097 {
-        of_number(out, at, i, numbers[i]);
+        of_number(out, at, i as u64, numbers[i]);
         i += 1;
     }
 }
 
-fn of_number(out: &mut [u8; 65536], at: &mut usize, number: usize, n: u64) {
+fn of_number(out: &mut [u8; 65536], at: &mut usize, number: u64, n: u64) {
     if n == 0 {
         return;
     }
     text(out, at, b"  message");
     message(out, at, number);
-    unsigned(out, at, n, 12);
-    text(out, at, b"\n");
+    phrase(out, at, b"", n, 12, b"\n");
 }

@@ -1,6 +1,5 @@
 -- The measure is the number of arguments that are left. Assumes nothing.
 use Prim.Native.Nat.{_-_}
-use native.Mathlib.Omega.{arith}
 use borrow.Author.Needs.{needs}
 use Rattle.rtcm_biases.proofs.options.all.Statement.{statement}
 use Rattle.rtcm_biases.proofs.options.all.Tie as tie
@@ -12,13 +11,22 @@ abbrev μ-loop : tie.MeasureT-loop
 μ-loop help₀ unknown₀ wrong₀ file₀ count i₀ help unknown wrong file i = count - i
 
 arg-count-requires : tie.Need-arg-count-requires Inv-loop μ-loop
-arg-count-requires c κs = tt
+arg-count-requires c κs = search needs
 
 loop-holds : tie.Need-loop-holds Inv-loop μ-loop
 loop-holds c = tt
 
+is-number-requires : tie.Need-is-number-requires Inv-loop μ-loop
+is-number-requires c κs = search needs
+
+start-at-requires : tie.Need-start-at-requires Inv-loop μ-loop
+start-at-requires c κs = search needs
+
+is-wrong-requires : tie.Need-is-wrong-requires Inv-loop μ-loop
+is-wrong-requires c κs = search needs
+
 kind-at-requires : tie.Need-kind-at-requires Inv-loop μ-loop
-kind-at-requires c κs = tt
+kind-at-requires c κs = search needs
 
 enum-told : tie.Need-enum-told Inv-loop μ-loop
 enum-told c = search needs
@@ -29,26 +37,17 @@ enum-told-2 c = search needs
 enum-told-3 : tie.Need-enum-told-3 Inv-loop μ-loop
 enum-told-3 c = search needs
 
-start-at-requires : tie.Need-start-at-requires Inv-loop μ-loop
-start-at-requires c κs = tt
-
-is-wrong-requires : tie.Need-is-wrong-requires Inv-loop μ-loop
-is-wrong-requires c κs = tt
-
-enum-told-4 : tie.Need-enum-told-4 Inv-loop μ-loop
-enum-told-4 c = search needs
-
 add-i : tie.Need-add-i Inv-loop μ-loop
-add-i c = omega arith
+add-i c = search needs
 
 loop-less : tie.Need-loop-less Inv-loop μ-loop
-loop-less c = omega arith
+loop-less c = search needs
 
 loop-again : tie.Need-loop-again Inv-loop μ-loop
 loop-again c = tt
 
 returns : tie.Need-returns Inv-loop μ-loop
-returns c = tt
+returns c = search needs
 
 pub all-spec : {M : Type 1} → statement M
 all-spec =
@@ -58,13 +57,13 @@ all-spec =
     μ-loop
     arg-count-requires
     loop-holds
+    is-number-requires
+    start-at-requires
+    is-wrong-requires
     kind-at-requires
     enum-told
     enum-told-2
     enum-told-3
-    start-at-requires
-    is-wrong-requires
-    enum-told-4
     add-i
     loop-less
     loop-again

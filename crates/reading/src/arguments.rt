@@ -1,0 +1,76 @@
+// The arguments of a program that goes through recordings, and what it says of them on standard error.
+ghost use Rattle.reading.specs.Arguments.{IsKind};
+use crate::Account;
+use check::same;
+use libc::STDERR_FILENO;
+
+// What an argument is. An option begins with `-`; `-` alone is standard input; any other word names a file.
+pub enum Kind {
+    Help,
+    // The program's own option.
+    Own,
+    Unknown,
+    Input,
+    File,
+}
+
+// What a word is to a program that has the option `own`.
+pub fn kind_of(word: &[u8], own: &[u8]) -> Kind
+    ensures { λ r. ⌜ IsKind (now (own .entry)) (now (word .entry)) r ⌝ }
+{
+    if same(word, b"--help") {
+        return Kind::Help;
+    }
+    if same(word, own) {
+        return Kind::Own;
+    }
+    if same(word, b"-") {
+        return Kind::Input;
+    }
+    if word.len() == 0 {
+        return Kind::File;
+    }
+    if word[0] == b'-' {
+        return Kind::Unknown;
+    }
+    Kind::File
+}
+
+// Opens a file. Where it cannot be opened, that is said, and the answer is below 0.
+pub fn open(path: &[u8]) -> i32 {
+    let fd = os::open_read(path);
+    if fd < 0 {
+        os::fail(path);
+    }
+    fd
+}
+
+// Says that argument i is no option of the program.
+pub fn unknown(program: &[u8], i: usize) {
+    let mut word = io::buffer();
+    let n = os::arg(i, &mut word);
+    say(program, b": no such option: ");
+    say(&word[..n], b" (");
+    say(
+        program,
+        b" --help lists them; a file is named with ./ before its dash)\n",
+    );
+}
+
+// Says that the arguments name no recording.
+pub fn no_file(program: &[u8]) {
+    say(program, b": name a file, or - for standard input; ");
+    say(program, b" --help says more\n");
+}
+
+// Says so if nothing was there to read.
+pub fn empty(name: &[u8], account: Account) {
+    if account.bytes == 0 {
+        say(name, b": is empty\n");
+    }
+}
+
+fn say(name: &[u8], words: &[u8]) {
+    io::write_all(STDERR_FILENO, name);
+    io::write_all(STDERR_FILENO, words);
+}
