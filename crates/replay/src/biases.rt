@@ -13,12 +13,14 @@ use messages::write1230;
 // ---- kinds 9 and 11, reading: start and area; the answer is the number of records, the bit behind the block, and the
 // records, of four bytes each. A place of the lists behind the records keeps what it held.
 
-pub fn read_1059(bytes: &[u8]) -> bool {
-    let mut satellites = [0xA5u8; 422];
+pub fn read(kind: usize, bytes: &[u8]) -> bool {
+    let mark = mark_of(kind);
+    let mut satellites = [mark; 422];
     let mut signals = [0xA5u8; 422];
     let mut biases = [0x5A5Ai16; 422];
     let n = record::two(bytes, 3);
-    let told = read1059::read(
+    let told = read_block(
+        kind,
         record::part(bytes, 5, n),
         record::two(bytes, 1),
         &mut satellites,
@@ -29,40 +31,26 @@ pub fn read_1059(bytes: &[u8]) -> bool {
     if !is_told(answer, told) {
         return false;
     }
-    are_records(
-        answer,
-        count_of(told),
-        0xA5A55A5A,
-        &satellites,
-        &signals,
-        &biases,
-    )
+    are_records(answer, count_of(told), mark, &satellites, &signals, &biases)
 }
 
-// A record of 1230 has satellite 0.
-pub fn read_1230(bytes: &[u8]) -> bool {
-    let satellites = [0u8; 422];
-    let mut signals = [0xA5u8; 422];
-    let mut biases = [0x5A5Ai16; 422];
-    let n = record::two(bytes, 3);
-    let told = read1230::read(
-        record::part(bytes, 5, n),
-        record::two(bytes, 1),
-        &mut signals,
-        &mut biases,
-    );
-    let answer = record::rest(bytes, 5 + n);
-    if !is_told(answer, told) {
-        return false;
+// What the list of satellites is filled with. A record of 1230 has satellite 0.
+fn mark_of(kind: usize) -> u8 {
+    if kind == 9 { 0xA5 } else { 0 }
+}
+
+fn read_block(
+    kind: usize,
+    area: &[u8],
+    start: usize,
+    satellites: &mut [u8; 422],
+    signals: &mut [u8; 422],
+    biases: &mut [i16; 422],
+) -> BlockRead {
+    if kind == 9 {
+        return read1059::read(area, start, satellites, signals, biases);
     }
-    are_records(
-        answer,
-        count_of(told),
-        0x00A55A5A,
-        &satellites,
-        &signals,
-        &biases,
-    )
+    read1230::read(area, start, signals, biases)
 }
 
 fn is_told(answer: &[u8], told: BlockRead) -> bool {
@@ -98,7 +86,7 @@ fn count_of(told: BlockRead) -> usize {
 fn are_records(
     answer: &[u8],
     n: usize,
-    fill: u64,
+    mark: u8,
     satellites: &[u8; 422],
     signals: &[u8; 422],
     biases: &[i16; 422],
@@ -106,7 +94,7 @@ fn are_records(
     let mut i: usize = 0;
     while i < 422 {
         let found = joined(satellites[i], signals[i], biases[i]);
-        if found != expected(answer, n, fill, i) {
+        if found != expected(answer, n, mark, i) {
             return false;
         }
         i += 1;
@@ -126,13 +114,13 @@ fn bits_of(bias: i16) -> usize
     (fields::pattern(bias as i64) % 65536) as usize
 }
 
-fn expected(answer: &[u8], n: usize, fill: u64, i: usize) -> u64
+fn expected(answer: &[u8], n: usize, mark: u8, i: usize) -> u64
     requires { ⌜ i < 422 ⌝ }
 {
     if i < n {
         return record::four(answer, 5 + i * 4);
     }
-    fill
+    joined(mark, 0xA5, 0x5A5A)
 }
 
 // ---- kinds 10 and 12, writing: start and list
@@ -147,13 +135,11 @@ pub fn put(kind: usize, bytes: &[u8], area: &mut [u8]) -> BlockWritten {
         return BlockWritten::Size;
     }
     take(bytes, n, &mut satellites, &mut signals, &mut biases);
-    if kind == 12 {
-        return put_1230(area, start, n, &signals, &biases);
-    }
-    put_1059(area, start, n, &satellites, &signals, &biases)
+    put_list(kind, area, start, n, &satellites, &signals, &biases)
 }
 
-fn put_1059(
+fn put_list(
+    kind: usize,
     area: &mut [u8],
     start: usize,
     n: usize,
@@ -161,23 +147,12 @@ fn put_1059(
     signals: &[u8; 1024],
     biases: &[i16; 1024],
 ) -> BlockWritten {
-    write1059::write(
-        area,
-        start,
-        record::part(satellites, 0, n),
-        record::part(signals, 0, n),
-        first(biases, n),
-    )
-}
-
-fn put_1230(
-    area: &mut [u8],
-    start: usize,
-    n: usize,
-    signals: &[u8; 1024],
-    biases: &[i16; 1024],
-) -> BlockWritten {
-    write1230::write(area, start, record::part(signals, 0, n), first(biases, n))
+    let signals = record::part(signals, 0, n);
+    let biases = first(biases, n);
+    if kind == 12 {
+        return write1230::write(area, start, signals, biases);
+    }
+    write1059::write(area, start, record::part(satellites, 0, n), signals, biases)
 }
 
 // The first n biases, where they are there.

@@ -12,8 +12,7 @@ pub fn agrees(kind: usize, bytes: &[u8]) -> bool {
         2 => framing::scan(bytes),
         3..=5 => fields::read(kind, bytes),
         6..=8 => writing::write(kind, bytes, 12),
-        9 => biases::read_1059(bytes),
-        11 => biases::read_1230(bytes),
+        9 | 11 => biases::read(kind, bytes),
         10 | 12 => writing::write(kind, bytes, 5 + record::two(bytes, 3) * 4),
         _ => tables::agrees(kind, bytes),
     }

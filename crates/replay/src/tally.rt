@@ -75,42 +75,54 @@ fn differs(line: u64) {
 
 // Prints the numbers of each kind, and of all.
 pub fn print(counts: &[u64; 38]) {
-    frames(counts);
-    fields(counts);
-    blocks(counts);
-    tables(counts);
+    kinds(
+        b"frame check: 
+scan: 
+field read, unsigned: 
+field read, two's complement: 
+field read, sign-magnitude: 
+field write, unsigned: 
+field write, two's complement: 
+field write, sign-magnitude: 
+1059 read: 
+1059 write: 
+1230 read: 
+1230 write: 
+number to signal: 
+signal to number: 
+order: 
+metres of a 1059 bias: 
+metres of a 1230 bias: 
+",
+        counts,
+    );
     kind(b"the end, with the number of records: ", counts, 0);
     kind(b"no record: ", counts, 18);
     verdict(counts[1], total(counts, 0), total(counts, 1));
 }
 
-fn frames(counts: &[u64; 38]) {
-    kind(b"frame check: ", counts, 1);
-    kind(b"scan: ", counts, 2);
+// A row for each kind from 1 on. The names are lines, in the order of the kinds.
+fn kinds(names: &[u8], counts: &[u64; 38]) {
+    let mut from: usize = 0;
+    let mut k: usize = 1;
+    while k < 18 {
+        let name = line(names, from);
+        kind(name, counts, k);
+        from = num::wrapping_add_usize(from, num::wrapping_add_usize(name.len(), 1));
+        k += 1;
+    }
 }
 
-fn fields(counts: &[u64; 38]) {
-    kind(b"field read, unsigned: ", counts, 3);
-    kind(b"field read, two's complement: ", counts, 4);
-    kind(b"field read, sign-magnitude: ", counts, 5);
-    kind(b"field write, unsigned: ", counts, 6);
-    kind(b"field write, two's complement: ", counts, 7);
-    kind(b"field write, sign-magnitude: ", counts, 8);
-}
-
-fn blocks(counts: &[u64; 38]) {
-    kind(b"1059 read: ", counts, 9);
-    kind(b"1059 write: ", counts, 10);
-    kind(b"1230 read: ", counts, 11);
-    kind(b"1230 write: ", counts, 12);
-}
-
-fn tables(counts: &[u64; 38]) {
-    kind(b"number to signal: ", counts, 13);
-    kind(b"signal to number: ", counts, 14);
-    kind(b"order: ", counts, 15);
-    kind(b"metres of a 1059 bias: ", counts, 16);
-    kind(b"metres of a 1230 bias: ", counts, 17);
+// The line that begins at a place, without its line feed.
+fn line(names: &[u8], from: usize) -> &[u8] {
+    let mut i = from;
+    while i < names.len() {
+        if names[i] == b'\n' {
+            return &names[from..i];
+        }
+        i += 1;
+    }
+    &names[0..0]
 }
 
 fn kind(name: &[u8], counts: &[u64; 38], k: usize) {

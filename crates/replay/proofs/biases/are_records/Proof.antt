@@ -5,10 +5,10 @@ use Rattle.replay.proofs.biases.are_records.Statement.{statement}
 use Rattle.replay.proofs.biases.are_records.Tie as tie
 
 abbrev Inv-loop : tie.InvT-loop
-Inv-loop answer n fill satellites signals biases i₀ i = Unit {0}
+Inv-loop answer n mark satellites signals biases i₀ i = Unit {0}
 
 abbrev μ-loop : tie.MeasureT-loop
-μ-loop answer n fill satellites signals biases i₀ i = 422 - i
+μ-loop answer n mark satellites signals biases i₀ i = 422 - i
 
 loop-holds : tie.Need-loop-holds Inv-loop μ-loop
 loop-holds c = tt
