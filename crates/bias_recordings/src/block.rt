@@ -19,40 +19,15 @@ pub fn show(
     let mut satellites = [0u8; 422];
     let mut signals = [0u8; 422];
     let mut biases = [0i16; 422];
-    let start = start_of(number);
-    let told = read(
-        number,
-        data,
-        start,
-        &mut satellites,
-        &mut signals,
-        &mut biases,
-    );
-    let BlockRead::Records { count, end } = told else {
+    let told = read(number, data, &mut satellites, &mut signals, &mut biases);
+    let BlockRead::Records { count: n, end } = told else {
         rows::word(place, b"refused\n", out, at);
         return counts;
     };
-    rows::show(
-        number,
-        place,
-        count,
-        &satellites,
-        &signals,
-        &biases,
-        out,
-        at,
-    );
-    let same = back::is_same(
-        number,
-        data,
-        start,
-        end,
-        count,
-        &satellites,
-        &signals,
-        &biases,
-    );
-    counts::with(counts, is_ascending(&satellites, count), same)
+    rows::show(number, place, n, &satellites, &signals, &biases, out, at);
+    let start = start_of(number);
+    let same = back::is_same(number, data, start, end, n, &satellites, &signals, &biases);
+    counts::with(counts, is_ascending(&satellites, n), same)
 }
 
 // The data bit at which a block starts. The header of the 1059 messages of rtcm3-1.bin is that of an old draft, and has 42
@@ -64,11 +39,11 @@ fn start_of(number: u64) -> usize {
 fn read(
     number: u64,
     data: &[u8],
-    start: usize,
     satellites: &mut [u8; 422],
     signals: &mut [u8; 422],
     biases: &mut [i16; 422],
 ) -> BlockRead {
+    let start = start_of(number);
     if number == 1059 {
         return read1059::read(data, start, satellites, signals, biases);
     }

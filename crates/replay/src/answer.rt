@@ -11,7 +11,7 @@ pub fn head(number: u8, n: usize) -> usize {
     record::wide(number) * 65536 + n
 }
 
-// Whether the answer is so, and a head alone.
+// Whether the answer is this head, and nothing more.
 pub fn is(answer: &[u8], number: u8, n: usize) -> bool {
     if answer.len() != 3 {
         return false;
@@ -19,6 +19,7 @@ pub fn is(answer: &[u8], number: u8, n: usize) -> bool {
     begins(answer, number, n)
 }
 
+// Whether the answer begins with this head.
 pub fn begins(answer: &[u8], number: u8, n: usize) -> bool {
     record::three(answer, 0) == head(number, n)
 }

@@ -53,6 +53,7 @@ fn read_block(
     read1230::read(area, start, signals, biases)
 }
 
+// Whether the answer is what reading tells, its records aside.
 fn is_told(answer: &[u8], told: BlockRead) -> bool {
     match told {
         BlockRead::Records { count, end } => is_block(answer, count, end),
@@ -114,6 +115,7 @@ fn bits_of(bias: i16) -> usize
     (fields::pattern(bias as i64) % 65536) as usize
 }
 
+// What place i of the lists holds: the answer's record, or behind the n records what it was filled with.
 fn expected(answer: &[u8], n: usize, mark: u8, i: usize) -> u64
     requires { ⌜ i < 422 ⌝ }
 {

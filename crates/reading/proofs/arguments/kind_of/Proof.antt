@@ -1,5 +1,4 @@
 -- The words are compared in the order of the definition. Assumes nothing.
-use native.Mathlib.Omega.{arith}
 use borrow.Author.Needs.{needs}
 use Rattle.reading.proofs.ArgumentLaws.{differs, no-dash}
 use Rattle.reading.proofs.arguments.kind_of.Statement.{statement}

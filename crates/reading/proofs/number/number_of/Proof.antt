@@ -1,5 +1,4 @@
 -- The field is in the first eight bytes. Assumes nothing.
-use native.Mathlib.Omega.{arith}
 use borrow.Author.Needs.{needs}
 use Rattle.reading.proofs.NumberLaws.{too-few, not-there, of-value, of-refusal}
 use Rattle.reading.proofs.number.number_of.Statement.{statement}
