@@ -117,40 +117,58 @@ fn pieces(stream: &[u8], answer: &[u8]) -> bool {
     let mut turns: u64 = 65536;
     while turns > 0 {
         turns -= 1;
-        match scanner::feed(&mut held, count, next(stream, offered), &mut frame) {
-            Fed::Frame {
-                length,
-                taken,
-                skipped,
-                held: n,
-            } => {
-                let place = num::wrapping_add_usize(before, skipped);
-                if !is_next(stream, &frame, answer, at, place, length) {
-                    return false;
-                }
-                offered = num::wrapping_add_usize(offered, taken);
-                before = num::wrapping_add_usize(place, length);
-                at = num::wrapping_add_usize(at, 4);
-                count = n;
-            }
-            Fed::More {
-                taken,
-                skipped,
-                held: n,
-            } => {
-                offered = num::wrapping_add_usize(offered, taken);
-                before = num::wrapping_add_usize(before, skipped);
-                count = n;
-                if stream.len() <= offered {
-                    return is_held(stream, &held, before, n) && is_end(answer, at, before);
-                }
-            }
-            _ => {
+        let piece = next(stream, offered);
+        let turn = turn_of(scanner::feed(&mut held, count, piece, &mut frame));
+        let place = num::wrapping_add_usize(before, turn.skipped);
+        offered = num::wrapping_add_usize(offered, turn.taken);
+        before = num::wrapping_add_usize(place, turn.length);
+        count = turn.held;
+        if turn.length > 0 {
+            if !is_next(stream, &frame, answer, at, place, turn.length) {
                 return false;
             }
+            at = num::wrapping_add_usize(at, 4);
+        } else if stream.len() <= offered {
+            return is_held(stream, &held, before, count) && is_end(answer, at, before);
         }
     }
     false
+}
+
+// What a call of the scanner comes to: the length of the frame, which is 0 if there is none, bytes taken and skipped, and
+// bytes held.
+struct Turn {
+    length: usize,
+    taken: usize,
+    skipped: usize,
+    held: usize,
+}
+
+// A refusal has a length that no frame has.
+fn turn_of(told: Fed) -> Turn {
+    match told {
+        Fed::Frame {
+            length,
+            taken,
+            skipped,
+            held,
+        } => one_turn(length, taken, skipped, held),
+        Fed::More {
+            taken,
+            skipped,
+            held,
+        } => one_turn(0, taken, skipped, held),
+        _ => one_turn(65536, 0, 0, 0),
+    }
+}
+
+fn one_turn(length: usize, taken: usize, skipped: usize, held: usize) -> Turn {
+    Turn {
+        length,
+        taken,
+        skipped,
+        held,
+    }
 }
 
 // The next seven bytes, or those that are left.

@@ -1,4 +1,4 @@
--- There are only so many turns. Assumes nothing.
+-- There are only so many turns, and the lengths of the areas stay. Assumes nothing.
 use mathlib.Core.Path.{_≡_, refl}
 use lib.ListN.{length}
 use borrow.Author.Needs.{needs}
@@ -20,11 +20,11 @@ loop-holds c = (refl, refl)
 sub-turns : tie.Need-sub-turns Inv-loop μ-loop
 sub-turns c = search needs
 
-slice-aggregate-feed : tie.Need-slice-aggregate-feed Inv-loop μ-loop
-slice-aggregate-feed c = search needs
-
 next-requires : tie.Need-next-requires Inv-loop μ-loop
 next-requires c κs = search needs
+
+slice-aggregate-feed : tie.Need-slice-aggregate-feed Inv-loop μ-loop
+slice-aggregate-feed c = search needs
 
 slice-aggregate-feed-2 : tie.Need-slice-aggregate-feed-2 Inv-loop μ-loop
 slice-aggregate-feed-2 c = search needs
@@ -32,11 +32,17 @@ slice-aggregate-feed-2 c = search needs
 feed-requires : tie.Need-feed-requires Inv-loop μ-loop
 feed-requires c κs = search needs
 
-enum-known-length : tie.Need-enum-known-length Inv-loop μ-loop
-enum-known-length c = search needs
+turn-of-requires : tie.Need-turn-of-requires Inv-loop μ-loop
+turn-of-requires c κs = search needs
 
 wrapping-add-usize-requires : tie.Need-wrapping-add-usize-requires Inv-loop μ-loop
 wrapping-add-usize-requires c κs = search needs
+
+wrapping-add-usize-requires-2 : tie.Need-wrapping-add-usize-requires-2 Inv-loop μ-loop
+wrapping-add-usize-requires-2 c κs = search needs
+
+wrapping-add-usize-requires-3 : tie.Need-wrapping-add-usize-requires-3 Inv-loop μ-loop
+wrapping-add-usize-requires-3 c κs = search needs
 
 slice-aggregate-is-next : tie.Need-slice-aggregate-is-next Inv-loop μ-loop
 slice-aggregate-is-next c = search needs
@@ -47,12 +53,6 @@ is-next-requires c κs = search needs
 returns : tie.Need-returns Inv-loop μ-loop
 returns c = search needs
 
-wrapping-add-usize-requires-2 : tie.Need-wrapping-add-usize-requires-2 Inv-loop μ-loop
-wrapping-add-usize-requires-2 c κs = search needs
-
-wrapping-add-usize-requires-3 : tie.Need-wrapping-add-usize-requires-3 Inv-loop μ-loop
-wrapping-add-usize-requires-3 c κs = search needs
-
 wrapping-add-usize-requires-4 : tie.Need-wrapping-add-usize-requires-4 Inv-loop μ-loop
 wrapping-add-usize-requires-4 c κs = search needs
 
@@ -61,15 +61,6 @@ loop-less c = search needs
 
 loop-again : tie.Need-loop-again Inv-loop μ-loop
 loop-again c = (search needs, search needs)
-
-enum-known-taken : tie.Need-enum-known-taken Inv-loop μ-loop
-enum-known-taken c = search needs
-
-wrapping-add-usize-requires-5 : tie.Need-wrapping-add-usize-requires-5 Inv-loop μ-loop
-wrapping-add-usize-requires-5 c κs = search needs
-
-wrapping-add-usize-requires-6 : tie.Need-wrapping-add-usize-requires-6 Inv-loop μ-loop
-wrapping-add-usize-requires-6 c κs = search needs
 
 slice-aggregate-is-held : tie.Need-slice-aggregate-is-held Inv-loop μ-loop
 slice-aggregate-is-held c = search needs
@@ -95,9 +86,6 @@ loop-again-2 c = (search needs, search needs)
 returns-4 : tie.Need-returns-4 Inv-loop μ-loop
 returns-4 c = search needs
 
-returns-5 : tie.Need-returns-5 Inv-loop μ-loop
-returns-5 c = search needs
-
 pub pieces-spec : {M : Type 1} → statement M
 pieces-spec =
     tie.close
@@ -107,23 +95,20 @@ pieces-spec =
     fresh-requires
     loop-holds
     sub-turns
-    slice-aggregate-feed
     next-requires
+    slice-aggregate-feed
     slice-aggregate-feed-2
     feed-requires
-    enum-known-length
+    turn-of-requires
     wrapping-add-usize-requires
+    wrapping-add-usize-requires-2
+    wrapping-add-usize-requires-3
     slice-aggregate-is-next
     is-next-requires
     returns
-    wrapping-add-usize-requires-2
-    wrapping-add-usize-requires-3
     wrapping-add-usize-requires-4
     loop-less
     loop-again
-    enum-known-taken
-    wrapping-add-usize-requires-5
-    wrapping-add-usize-requires-6
     slice-aggregate-is-held
     is-held-requires
     is-end-requires
@@ -131,5 +116,4 @@ pieces-spec =
     returns-3
     loop-less-2
     loop-again-2
-    returns-4
-    returns-5)
+    returns-4)
