@@ -1,6 +1,7 @@
 -- What an argument is. Assumes nothing.
 use mathlib.Core.Path.{_≡_}
 use mathlib.Core.List.{List, [], _∷_}
+use lib.IntN.{ℤ, pos, negsuc}
 use Prim.Native.Nat.{ℕ}
 use lib.ListN.{getD}
 use Rattle.reading.specs.declared.arguments.Kind.{Kind}
@@ -29,3 +30,8 @@ IsKind own w Own = (w ≡ help → ⊥) × (w ≡ own)
 IsKind own w Input = Other own w × (w ≡ dash)
 IsKind own w Unknown = Other own w × (w ≡ dash → ⊥) × Dashed w
 IsKind own w File = Other own w × (w ≡ dash → ⊥) × (Dashed w → ⊥)
+
+-- -1, or a number from 0 on
+abbrev pub Descriptor : ℤ → Type 0
+Descriptor (pos n) = Unit
+Descriptor (negsuc n) = n ≡ 0

@@ -1,5 +1,6 @@
 // The arguments of a program that goes through recordings, and what it says of them on standard error.
-ghost use Rattle.reading.specs.Arguments.{IsKind};
+ghost use mathlib.Core.Path.{_≡_};
+ghost use Rattle.reading.specs.Arguments.{IsKind, Descriptor};
 use crate::Account;
 use check::same;
 use libc::STDERR_FILENO;
@@ -36,17 +37,22 @@ pub fn kind_of(word: &[u8], own: &[u8]) -> Kind
     Kind::File
 }
 
-// Opens a file. Where it cannot be opened, that is said, and the answer is below 0.
-pub fn open(path: &[u8]) -> i32 {
+// Opens a file, and answers its descriptor. Where it cannot be opened, that is said, and the answer is -1.
+pub fn open(path: &[u8]) -> i32
+    ensures { λ r. ⌜ Descriptor r ⌝ }
+{
     let fd = os::open_read(path);
     if fd < 0 {
         os::fail(path);
+        return -1;
     }
     fd
 }
 
 // Says that argument i is no option of the program.
-pub fn unknown(program: &[u8], i: usize) {
+pub fn unknown(program: &[u8], i: usize)
+    ensures { λ r. ⌜ r ≡ tt ⌝ }
+{
     let mut word = io::buffer();
     let n = os::arg(i, &mut word);
     say(program, b": no such option: ");
@@ -58,13 +64,17 @@ pub fn unknown(program: &[u8], i: usize) {
 }
 
 // Says that the arguments name no recording.
-pub fn no_file(program: &[u8]) {
+pub fn no_file(program: &[u8])
+    ensures { λ r. ⌜ r ≡ tt ⌝ }
+{
     say(program, b": name a file, or - for standard input; ");
     say(program, b" --help says more\n");
 }
 
 // Says so if nothing was there to read.
-pub fn empty(name: &[u8], account: Account) {
+pub fn empty(name: &[u8], account: Account)
+    ensures { λ r. ⌜ r ≡ tt ⌝ }
+{
     if account.bytes == 0 {
         say(name, b": is empty\n");
     }
