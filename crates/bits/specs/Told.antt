@@ -63,6 +63,22 @@ state = Refused 11 []
 abbrev pub incomplete : {A : Type 0} → Told A
 incomplete = Refused 12 []
 
+-- 13 Kind: another message number, or another edition, than the call takes.
+abbrev pub kind : {A : Type 0} → Told A
+kind = Refused 13 []
+
+-- 14 BadCheck: the checksum differs. Carries the one that was sent and the one computed.
+abbrev pub badCheck : {A : Type 0} → ℕ → ℕ → Told A
+badCheck sent computed = Refused 14 (sent ∷ computed ∷ [])
+
+-- 15 Full: no entry has the key, and none is free.
+abbrev pub full : {A : Type 0} → Told A
+full = Refused 15 []
+
+-- 16 Absent: no entry has the key.
+abbrev pub absent : {A : Type 0} → Told A
+absent = Refused 16 []
+
 -- ---- statements by `Told`
 
 -- A kind of answer stands for what it tells one to one: answers that tell the same are the same.
