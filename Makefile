@@ -35,7 +35,7 @@ recording = $(firstword $(filter %/$(1),$(RECORDINGS)))
 RATTLE_FILES := crates.txt $(shell find crates -name must-fail -prune -o -type f \( -name '*.rt' -o -name '*.antt' \) -print)
 
 .PHONY: all install check relay bench bench-run differential lint clean
-.PHONY: check-header check-opt check-san check-valgrind check-cpp check-exports check-relay check-install
+.PHONY: check-papers check-header check-opt check-san check-valgrind check-cpp check-exports check-relay check-install
 
 all: libpeerivolt.a libpeerivolt.so
 
@@ -150,8 +150,12 @@ relay: $(B)/opt/relay
 
 # ---- Checks.
 
-check: check-header check-opt check-san check-cpp check-exports check-relay check-install check-valgrind
+check: check-papers check-header check-opt check-san check-cpp check-exports check-relay check-install check-valgrind
 	@echo "make check: passed ($(LIB))"
+
+# The pages: every rule has a row that says what meets it.
+check-papers:
+	c/test_papers.sh
 
 # The header by itself, in every language and by every compiler that is there.
 check-header:
