@@ -7,7 +7,7 @@ use lib.ListN.{length, take, drop}
 use lib.Seq.{take-append-le, drop-append-le, append-snoc}
 use Rattle.frames.specs.Scan.{Decision, Take, Item, Skipped, Framed, Scanned, holding, after, scanPast, scan, framesOf}
 use Rattle.frames.specs.Feed.{Next, Held, Found, skipping, next, Fed, More, Frame, past, feed}
-use Rattle.frames.proofs.FramingLaws.{Decides}
+use Rattle.frames.proofs.FramingLaws.{Whole, Decides}
 use Rattle.frames.proofs.ItemLaws.{frames-append}
 use Rattle.frames.proofs.FeedInduction.{along-next, along-feed}
 use Rattle.frames.proofs.KeptLaws.{Kept, kept}
@@ -23,6 +23,11 @@ module _ {W K : Type 0} (d : List ℕ → Decision W K) where
   ofFed (More t is h) p = record { items = is; held = h }
   ofFed (Frame t is k f h) p = after (is ++ (Framed k f ∷ [])) (scan d (h ++ drop t p))
 
+  -- the scan that begins as r says, with nothing behind
+  abbrev pub begins : Next W K → Scanned W K
+  begins (Held is h) = record { items = is; held = h }
+  begins (Found is k f h) = after (is ++ (Framed k f ∷ [])) (scan d h)
+
   past-drop : (m : ℕ) (s : List ℕ) → scanPast d m s ≡ scan d (drop m s)
   past-drop zero s = refl
   past-drop (suc m) [] = refl
@@ -35,6 +40,25 @@ module _ {W K : Type 0} (d : List ℕ → Decision W K) where
   of-past : (is : List (Item W K)) (r : Fed W K) (x : ℕ) (p : List ℕ) → after is (ofFed r p) ≡ ofFed (past is r) (x ∷ p)
   of-past is (More t js h) x p = refl
   of-past is (Frame t js k f h) x p = simp append-assoc
+
+  begins-skipping : (w : W) (x : ℕ) (r : Next W K) → after (Skipped w x ∷ []) (begins r) ≡ begins (skipping (Skipped w x) r)
+  begins-skipping w x (Held is h) = refl
+  begins-skipping w x (Found is k f h) = refl
+
+  module _ (whole : Whole d) where
+    begins-found : (k : K) (n x : ℕ) (xs : List ℕ) → d (x ∷ xs) ≡ Take k n → scan d (x ∷ xs) ≡ after (Framed k (take n (x ∷ xs)) ∷ []) (scan d (drop n (x ∷ xs)))
+    begins-found k zero x xs e = absurd (not-suc-le-zero (whole (x ∷ xs) k 0 e .0))
+    begins-found k (suc n) x xs e = rw e (ap (after (Framed k (take (suc n) (x ∷ xs)) ∷ [])) (past-drop n xs))
+
+    -- THE SCAN begins as the search for its first frame says.
+    pub scan-next : (h : List ℕ) → scan d h ≡ begins (next d h)
+    scan-next h =
+        along-next d (λ h r. scan d h ≡ begins r)
+        refl
+        (λ w x xs r e ih. rw e (ap (after (Skipped w x ∷ [])) ih ∙ begins-skipping w x r))
+        (λ k n x xs e. begins-found k n x xs e)
+        (λ x xs e. rw e)
+        h
 
   -- what is held waits
   abbrev Waits : Next W K → Type 0

@@ -10,11 +10,15 @@ use borrow.Author.Tests.{le-leb, lt-leb, leb-true, leb-false}
 use Rattle.frames.specs.Scan.{Decision, Skip, Take, Wait}
 use Rattle.frames.specs.Framing.{Framing, decide, Lawful}
 
+-- what a decider takes is there, and is some byte
+abbrev pub Whole : {W K : Type 0} → (List ℕ → Decision W K) → Type 0
+Whole {W} {K} d = (s : List ℕ) (k : K) (n : ℕ) → d s ≡ Take k n → (1 ≤ n) × (n ≤ length s)
+
 -- What makes a decider fit for scanning: what it decides stays when bytes follow, and what it takes is there.
 pub record Decides {W K : Type 0} (d : List ℕ → Decision W K) : Type 0 where
   pub skips : (s t : List ℕ) (w : W) → d s ≡ Skip w → d (s ++ t) ≡ Skip w
   pub takes : (s t : List ℕ) (k : K) (n : ℕ) → d s ≡ Take k n → d (s ++ t) ≡ Take k n
-  pub whole : (s : List ℕ) (k : K) (n : ℕ) → d s ≡ Take k n → (1 ≤ n) × (n ≤ length s)
+  pub whole : Whole d
 
 module _ {W K : Type 0} (F : Framing W K) where
   pub enough : (s : List ℕ) → F .need s ≤ length s → decide F s ≡ F .verdict s

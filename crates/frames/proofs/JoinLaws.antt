@@ -7,7 +7,7 @@ use native.Mathlib.Omega.{arith}
 use lib.ListN.{length, take, drop, take-append-drop}
 use lib.Seq.{take-append-le}
 use Rattle.frames.specs.Scan.{Decision, Skip, Take, Wait, Skipped, Framed, holding, after, step, scanPast, scan, bytesOf}
-use Rattle.frames.proofs.FramingLaws.{Decides}
+use Rattle.frames.proofs.FramingLaws.{Whole, Decides}
 
 module _ {W K : Type 0} (d : List ℕ → Decision W K) where
   module _ (D : Decides d) where
@@ -32,14 +32,15 @@ module _ {W K : Type 0} (d : List ℕ → Decision W K) where
     pub join : (a b : List ℕ) → scan d (a ++ b) ≡ after (scan d a .items) (scan d (scan d a .held ++ b))
     join a b = join-past 0 a b (omega arith)
 
+  module _ (whole : Whole d) where
     whole-step : (x : ℕ) (xs : List ℕ)
         → ((m : ℕ) → m ≤ length xs → bytesOf (scanPast d m xs .items) ++ scanPast d m xs .held ≡ drop m xs)
         → (q : Decision W K) → d (x ∷ xs) ≡ q
         → bytesOf (step q x xs (λ n. scanPast d n xs) .items) ++ step q x xs (λ n. scanPast d n xs) .held ≡ x ∷ xs
     whole-step x xs ih (Skip w) e = ap (λ l. x ∷ l) (ih 0 (omega arith))
-    whole-step x xs ih (Take k zero) e = absurd (not-suc-le-zero (D .whole (x ∷ xs) k 0 e .0))
+    whole-step x xs ih (Take k zero) e = absurd (not-suc-le-zero (whole (x ∷ xs) k 0 e .0))
     whole-step x xs ih (Take k (suc n)) e =
-        let p : (1 ≤ suc n) × (suc n ≤ suc (length xs)) = D .whole (x ∷ xs) k (suc n) e in
+        let p : (1 ≤ suc n) × (suc n ≤ suc (length xs)) = whole (x ∷ xs) k (suc n) e in
         rw (append-assoc, ih n (le-of-suc-le-suc (p .1))) (take-append-drop (suc n) (x ∷ xs))
     whole-step x xs ih Wait e = refl
 

@@ -23,3 +23,11 @@ pub mod LookLaws
 pub mod SightLaws
 pub mod WalkLaws
 pub mod ProgressLaws
+pub mod UbxLaws
+pub mod UbxTrip
+pub mod EitherLaws
+pub mod ModeLaws
+pub mod StartLaws
+pub mod UbxExamples
+pub mod CloseLaws
+pub mod StandLaws

@@ -10,16 +10,16 @@ use Rattle.bits.specs.Told.{Accepted}
 use Rattle.frames.specs.Scan.{Decision, Item, Skipped, Framed, after, scan, framesOf, placed}
 use Rattle.frames.specs.Framing.{Framing, Lawful, decide}
 use Rattle.frames.specs.Feed as fed
-use Rattle.frames.specs.Feed.{Next, Held, Found, skipping, next, Fed, only, past, feed}
+use Rattle.frames.specs.Feed.{Next, Held, Found, skipping, next, Fed, past, feed}
 use Rattle.frames.specs.Walk as walk
 use Rattle.frames.specs.Walk.{Place, placeOf, nextFrom, framesAt, cut, Walked, last, then}
 use Rattle.frames.specs.Steps.{sight}
 use Rattle.frames.specs.declared.scan.Sight.{Sight}
 use Rattle.frames.specs.declared.scan.Sight.the-variants as sights
-use Rattle.frames.proofs.FramingLaws.{Decides, decides}
+use Rattle.frames.proofs.FramingLaws.{Whole, Decides, decides}
 use Rattle.frames.proofs.ItemLaws.{frames-append}
 use Rattle.frames.proofs.FeedInduction.{along-next, along-feed}
-use Rattle.frames.proofs.FeedLaws.{ofFed, feed-is}
+use Rattle.frames.proofs.FeedLaws.{begins, scan-next}
 use Rattle.frames.proofs.KeptLaws.{kept, KeptNext, kept-next, bytes-alone, rest-is, front-is, back-is}
 use Rattle.frames.proofs.SightLaws.{Inside, inside}
 
@@ -129,7 +129,7 @@ abbrev Some : {W K : Type 0} → Next W K → Type 0
 Some (Held is g) = Unit {0}
 Some (Found is k f g) = 1 ≤ length f
 
-module _ {W K : Type 0} (d : List ℕ → Decision W K) (D : Decides d) where
+module _ {W K : Type 0} (d : List ℕ → Decision W K) (whole : Whole d) where
   some-skipping : (i : Item W K) (r : Next W K) → Some r → Some (skipping i r)
   some-skipping i (Held is g) e = tt
   some-skipping i (Found is k f g) e = e
@@ -139,12 +139,9 @@ module _ {W K : Type 0} (d : List ℕ → Decision W K) (D : Decides d) where
       along-next d (λ t r. Some r)
       tt
       (λ w x xs r e ih. some-skipping (Skipped w x) r ih)
-      (λ k n x xs e. let w = D .whole (x ∷ xs) k n e in omega (arith, w .0, length-take-le n (x ∷ xs) (w .1)))
+      (λ k n x xs e. let w = whole (x ∷ xs) k n e in omega (arith, w .0, length-take-le n (x ∷ xs) (w .1)))
       (λ x xs e. tt)
       t
-
-  scan-next : (t : List ℕ) → scan d t ≡ ofFed d (only (next d t)) []
-  scan-next t = ap (scan d) (sym (append-nil t)) ∙ feed-is d D [] t
 
 module _ {W K : Type 0} (F : Framing W K) (s : List ℕ) where
   -- Held: the scan from there on skips up to place p, and holds what stands from there on.
@@ -179,7 +176,7 @@ module _ {W K : Type 0} (F : Framing W K) (s : List ℕ) where
             none = k .none;
             count = c;
             fits = omega (arith, simp length-append at (ap length (k .bytes)), bytes-alone is (k .none), length-drop from s);
-            gives = scan-next (decide F) (decides F L) (drop from s) ∙ ap (λ r. ofFed (decide F) (only r) []) e ∙ (λ j. record { items = is; held = h j });
+            gives = scan-next (decide F) (decides F L .whole) (drop from s) ∙ ap (begins (decide F)) e ∙ (λ j. record { items = is; held = h j });
           }
       stops-by (Found is x f g) e k p q = let z : _≡_ {A = ℕ} 0 1 = cc in absurd (omega arith)
 
@@ -199,9 +196,8 @@ module _ {W K : Type 0} (F : Framing W K) (s : List ℕ) where
             count = c;
             some = omega arith;
             fits = omega (arith, b, bytes-alone is (k .none), length-drop from s);
-            gives = scan-next (decide F) (decides F L) (drop from s) ∙ ap (λ r. ofFed (decide F) (only r) []) e
-                ∙ (λ j. after (is ++ (Framed x (u j) ∷ [])) (scan (decide F) (h j ++ [])))
-                ∙ ap (λ t. after (is ++ (Framed x (cut s (walk.Frame p n)) ∷ [])) (scan (decide F) t)) (append-nil (drop (p + n) s));
+            gives = scan-next (decide F) (decides F L .whole) (drop from s) ∙ ap (begins (decide F)) e
+                ∙ (λ j. after (is ++ (Framed x (u j) ∷ [])) (scan (decide F) (h j)));
           }
 
       place-is : (x : Place) → nextFrom F s from ≡ Accepted x → placeOf from (next (decide F) (drop from s)) ≡ x
@@ -213,7 +209,7 @@ module _ {W K : Type 0} (F : Framing W K) (s : List ℕ) where
 
       pub finds : (p n : ℕ) → nextFrom F s from ≡ Accepted (walk.Frame p n) → Finds from p n
       finds p n e =
-          finds-by (next (decide F) (drop from s)) refl (kept-next (decide F) (drop from s)) (found-some (decide F) (decides F L) (drop from s)) p n (place-is (walk.Frame p n) e)
+          finds-by (next (decide F) (drop from s)) refl (kept-next (decide F) (drop from s)) (found-some (decide F) (decides F L .whole) (drop from s)) p n (place-is (walk.Frame p n) e)
 
     -- what comes of a walk: the places and the bytes of the frames of the scan from there on, and the bytes that it holds
     pub record Comes (from : ℕ) (fs : List Place) (m : ℕ) : Type 0 where

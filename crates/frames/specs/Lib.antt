@@ -9,3 +9,7 @@ pub mod Rtcm
 pub mod Answers
 pub mod Walk
 pub mod Steps
+pub mod Ubx
+pub mod Either
+pub mod Modes
+pub mod Close

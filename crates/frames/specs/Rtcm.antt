@@ -9,14 +9,23 @@ use Rattle.frames.specs.Scan.{Decision, Skip, Take, Wait}
 use Rattle.frames.specs.Framing.{Framing}
 use Rattle.frames.specs.Frame.{dataLength, sentSum, ownSum, Whole, check}
 
--- why a byte is skipped: it is not D3; or it is, and the checksum sent is not the one computed
+-- why a byte starts no UBX frame: it is not B5; no 62 follows; the payload is above 1,021 bytes; the two sums sent are not those computed
+pub data UbxWhy : Type 0 where
+  NotB5 : UbxWhy
+  No62 : UbxWhy
+  TooLong : (payload : ℕ) → UbxWhy
+  BadSums : (sent computed : ℕ × ℕ) → UbxWhy
+
+-- why a byte is skipped: it is not D3; or it is, and the checksum sent is not the one computed; or it starts no UBX frame
 pub data Why : Type 0 where
   NotD3 : Why
   BadCheck : (sent computed : ℕ) → Why
+  OfUbx : UbxWhy → Why
 
--- there is one kind of frame
+-- the kinds of frames
 pub data Kind : Type 0 where
   Rtcm : Kind
+  Ubx : Kind
 
 -- A byte other than D3 is decided by itself, a D3 by L + 6 bytes: a frame if the checksums agree. (Of bits that are not there yet the length reads 0, and 6 bytes are needed to know it.)
 unfoldable pub rtcm : Framing Why Kind

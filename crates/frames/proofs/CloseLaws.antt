@@ -1,0 +1,67 @@
+-- Closing holds nothing, and every byte of a stream that is fed and then closed is in exactly one item. Assumes nothing.
+use mathlib.Core.Path.{_≡_, refl, ap}
+use mathlib.Core.List.{List, [], _∷_, _++_, append-nil}
+use Prim.Native.Nat.{ℕ, zero, suc, _+_, pred}
+use native.Mathlib.Omega.{arith}
+use lib.ListN.{length, take}
+use Rattle.frames.specs.Scan.{Decision, Skip, Take, Wait, Item, step, scanPast, scan, bytesOf, framesOf, skippedOf, framed}
+use Rattle.frames.specs.Framing.{Framing, Lawful, decide}
+use Rattle.frames.specs.Offered.{Calls}
+use Rattle.frames.proofs.FramingLaws.{Whole, decides}
+use Rattle.frames.proofs.ItemLaws.{length-items}
+use Rattle.frames.proofs.JoinLaws.{every-byte}
+use Rattle.frames.proofs.TakenLaws as takens
+use Rattle.frames.specs.Close.{final, closing, closed}
+
+-- ---- a decider that never waits
+
+module _ {W K : Type 0} (d : List ℕ → Decision W K) where
+  final-takes : (q : Decision W K) (k : K) (n : ℕ) → final q ≡ Take k n → q ≡ Take k n
+  final-takes (Skip w) k n e = let z : _≡_ {A = ℕ} 0 1 = cc in absurd (omega arith)
+  final-takes (Take j m) k n e = cc
+  final-takes Wait k n e = let z : _≡_ {A = ℕ} 0 1 = cc in absurd (omega arith)
+
+  pub closing-whole : Whole d → Whole (closing d)
+  closing-whole w s k n e = w s k n (final-takes (d s) k n e)
+
+  none-step : (x : ℕ) (xs : List ℕ) → ((m : ℕ) → scanPast (closing d) m xs .held ≡ [])
+      → (q : Decision W K) → step (final q) x xs (λ n. scanPast (closing d) n xs) .held ≡ []
+  none-step x xs ih (Skip w) = ih 0
+  none-step x xs ih (Take k n) = ih (pred n)
+  none-step x xs ih Wait = ih 0
+
+  none-past : (m : ℕ) (s : List ℕ) → scanPast (closing d) m s .held ≡ []
+  none-past zero [] = refl
+  none-past (suc m) [] = refl
+  none-past (suc m) (x ∷ xs) = none-past m xs
+  none-past zero (x ∷ xs) = none-step x xs (λ m. none-past m xs) (d (x ∷ xs))
+
+  -- CLOSING HOLDS NOTHING.
+  pub holds-nothing : (s : List ℕ) → scan (closing d) s .held ≡ []
+  holds-nothing s = none-past 0 s
+
+-- ---- a stream that is fed and then closed
+
+module _ {W K : Type 0} (F : Framing W K) (L : Lawful F) where
+  -- what is closed is all given away
+  pub all-given : (h : List ℕ) → bytesOf (closed F h) ≡ h
+  all-given h =
+      let e = every-byte (closing (decide F)) (closing-whole (decide F) (decides F L .whole)) h in
+      rw (holds-nothing (decide F) h, append-nil (bytesOf (closed F h))) at e
+
+  -- EVERY BYTE of a stream is in exactly one item, of the scan or of the closing, in order.
+  pub every-byte-closed : (s : List ℕ) → bytesOf (scan (decide F) s .items) ++ bytesOf (closed F (scan (decide F) s .held)) ≡ s
+  every-byte-closed s = rw (all-given (scan (decide F) s .held)) (every-byte (decide F) (decides F L .whole) s)
+
+  -- the same of calls as they were made: the frames handed out and the bytes skipped are those of items that, with those of the closing, are what was taken
+  pub every-byte-once : {s a : List ℕ} {fs : List (List ℕ)} {k n : ℕ} → Calls F s fs k a n
+      → (is : List (Item W K)) × (framesOf is ≡ fs) × (skippedOf is ≡ k) × (bytesOf is ++ bytesOf (closed F (take n a)) ≡ s)
+  every-byte-once {s} {a} {fs} {k} {n} r =
+      let x = takens.taken F L r in
+      (x .items, x .frames, x .skipped, rw (all-given (take n a)) (x .bytes))
+
+  -- THE SUM of a recording: bytes taken are the bytes in frames, fed or salvaged, plus skipped, in feeding or in closing.
+  pub sum-closed : {s a : List ℕ} {fs : List (List ℕ)} {k n : ℕ} → Calls F s fs k a n
+      → length s ≡ (framed fs + framed (framesOf (closed F (take n a)))) + (k + skippedOf (closed F (take n a)))
+  sum-closed {s} {a} {fs} {k} {n} r =
+      omega (arith, takens.sum F L r, takens.taken F L r .count, length-items (closed F (take n a)), ap length (all-given (take n a)))
