@@ -13,7 +13,7 @@ use Rattle.frames.specs.Feed as fed
 use Rattle.frames.specs.Feed.{Fed, feed}
 use Rattle.bits.specs.Onto.{onto}
 use Rattle.frames.specs.Call.{More, Frame, outcome, called, feedOf}
-use Rattle.frames.specs.Offered.{Scans, Offered, last, then, Offers, end, piece}
+use Rattle.frames.specs.Offered.{Scans, Pieces, none, one, Offered, last, then, Offers, end, piece}
 use Rattle.frames.proofs.FramingLaws.{decides}
 use Rattle.frames.proofs.ItemLaws.{frames-append, skipped-append}
 use Rattle.frames.proofs.JoinLaws.{join, held-waits}
@@ -140,6 +140,16 @@ module _ {W K : Type 0} (F : Framing W K) where
             let less : length (scan (decide F) (take (length g) (onto g a) ++ drop t p) .items) < k = rw tg (omega (arith, simp length-append at (ap (λ s. length (s .items)) u))) in
             frame-first o (accepted F a n p o f ∙ ap (λ G. called G a o) e) (ih (onto g a) (length g) (drop t p) fits less)
 
-    -- EACH PIECE that a call accepts comes to More after finitely many calls, with the same output lent again.
+    -- EACH PIECE that a call accepts can be offered until More, here with the same output lent to each call.
     pub ends : (a : List ℕ) (n : ℕ) (p o : List ℕ) → Fits a n p o → Ends a n p
     ends a n p o f = ends-within (suc (length (scan (decide F) (take n a ++ p) .items))) o a n p f (omega arith)
+
+    -- ANY LIST OF PIECES that calls take can be offered, each until More.
+    pub offers : (o : List ℕ) → 1029 ≤ length o → (ps : List (List ℕ)) → Pieces ps → (a : List ℕ) (n : ℕ) → length a ≡ 1029 → n ≤ 1029
+        → (fs : List (List ℕ)) × (s : ℕ) × (b : List ℕ) × (m : ℕ) × Offers F a n ps fs s b m
+    offers o big [] none a n l w = ([], 0, a, n, end)
+    offers o big (p ∷ ps) (one q r) a n l w =
+        let x = ends a n p o record { area = l; count = w; piece = q; output = big } in
+        let g = given (x .4) in
+        let y = offers o big ps r (x .2) (x .3) (g .area) (omega (arith, g .within)) in
+        (_, _, y .2, y .3, piece (x .4) (y .4))

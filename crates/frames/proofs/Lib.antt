@@ -31,3 +31,5 @@ pub mod StartLaws
 pub mod UbxExamples
 pub mod CloseLaws
 pub mod StandLaws
+pub mod PlaceLaws
+pub mod RtcmDemand

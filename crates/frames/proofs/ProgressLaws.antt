@@ -9,6 +9,7 @@ use Rattle.bits.specs.Told.{Told, Accepted}
 use Rattle.frames.specs.Scan.{Framed, scan}
 use Rattle.frames.specs.Framing.{Framing, Lawful, decide}
 use Rattle.frames.specs.Call.{FedAnswer, Frame, outcome, feedOf}
+use Rattle.frames.specs.Offered.{Chain, start, then}
 use Rattle.frames.proofs.FramingLaws.{decides}
 use Rattle.frames.proofs.FeedLaws.{ofFed, feed-is}
 use Rattle.frames.proofs.AnswerLaws.{is-frame}
@@ -22,7 +23,7 @@ module _ {W K : Type 0} (F : Framing W K) (L : Lawful F) (a : List ℕ) (n : ℕ
   taken-fits : t ≤ length p
   taken-fits = is-frame F a n p o L l t s m b q e .keeps .0
 
-  fewer-to-come : toCome F b m (drop t p) < toCome F a n p
+  pub fewer-to-come : toCome F b m (drop t p) < toCome F a n p
   fewer-to-come =
       let x = is-frame F a n p o L l t s m b q e in
       let is = x .items ++ (Framed (x .kind) (take l q) ∷ []) in
@@ -30,6 +31,11 @@ module _ {W K : Type 0} (F : Framing W K) (L : Lawful F) (a : List ℕ) (n : ℕ
       let u : toCome F a n p ≡ length (is ++ js) =
       ap (λ r. length (r .items)) (feed-is (decide F) (decides F L) p (take n a) ∙ ap (λ G. ofFed (decide F) G p) (x .gives)) in
       omega (arith, u, length-append is js, length-append (x .items) (Framed (x .kind) (take l q) ∷ []))
+
+-- EVERY CHAIN of calls that hand out frames is finite, whatever output each call is lent: the calls are no more than the items of the scan.
+pub chain-ends : {W K : Type 0} (F : Framing W K) → Lawful F → {a p : List ℕ} {n k : ℕ} → Chain F a n p k → k ≤ toCome F a n p
+chain-ends F L start = omega arith
+chain-ends F L (then {a} {p} {b} {q} {n} {m} {t} {s} {l} {k} o e r) = omega (arith, chain-ends F L r, fewer-to-come F L a n p o l t s m b q e)
 
 -- the piece is offered from its byte i on
 module _ {W K : Type 0} (F : Framing W K) (L : Lawful F) (a : List ℕ) (n : ℕ) (p : List ℕ) (i : ℕ) (o : List ℕ) (h : i ≤ length p)

@@ -10,7 +10,7 @@ use lib.ListN.{length, getD, take, drop, set, length-append, length-drop, List·
 use lib.Seq.{getD-append-add, getD-drop, drop-append-le, drop-append-add, take-append-le, take-append-add, take-all, take-nil, length-take-le}
 use Rattle.bits.specs.Onto.{onto, over}
 use Rattle.bits.specs.Crc.{crc, crcFrom}
-use Rattle.bits.proofs.CrcLaws.{from-append}
+use Rattle.bits.proofs.CrcLaws.{crc-append}
 use Rattle.bits.proofs.OntoLaws.{over-zero, over-onto}
 
 -- ---- bytes
@@ -63,11 +63,10 @@ module _ (h p : List ℕ) (i n : ℕ) where
 
     -- the checksum, from that of the first m bytes
     pub sum-across : (c : ℕ) → c ≡ crc (take (i + m - i) (drop i h)) → crcFrom c (take (n - m - 0) p) ≡ crc (take n (drop i (h ++ p)))
-    unfolding crc
     sum-across c q =
         ap (λ k. crcFrom k (take (n - m - 0) p)) q
-        ∙ sym (from-append (take (i + m - i) (drop i h)) (take (n - m - 0) p) 0)
-        ∙ ap (crcFrom 0) part-across
+        ∙ sym (crc-append (take (i + m - i) (drop i h)) (take (n - m - 0) p))
+        ∙ ap crc part-across
 
 -- ---- copies
 

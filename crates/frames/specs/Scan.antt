@@ -1,7 +1,9 @@
 -- The whole-stream scan over any decider, and what is read off its items. Assumes nothing.
+use mathlib.Core.Bool.{cond}
 use mathlib.Core.List.{List, [], _∷_, _++_}
 use Prim.Native.Nat.{ℕ, zero, suc, _+_, pred}
 use lib.ListN.{length, take}
+use lib.Dec.{ltb}
 
 -- What is done at the front of a list of bytes: its first byte is skipped, for a reason; a frame of a kind and a length is handed out; or more bytes are awaited.
 pub data Decision (W K : Type 0) : Type 0 where
@@ -81,3 +83,13 @@ pub record Placed (W K : Type 0) : Type 0 where
 abbrev pub placed : {W K : Type 0} → ℕ → List (Item W K) → List (Placed W K)
 placed n [] = []
 placed n (i ∷ is) = record { place = n; item = i } ∷ placed (n + length (itemBytes i)) is
+
+-- 1 for a byte that is skipped at a place n before place e, else 0
+abbrev pub skipAt : {W K : Type 0} → ℕ → ℕ → Item W K → ℕ
+skipAt e n (Skipped w x) = cond (ltb n e) 1 0
+skipAt e n (Framed k f) = 0
+
+-- how many of the places before e are skipped
+abbrev pub skipsBefore : {W K : Type 0} → ℕ → List (Placed W K) → ℕ
+skipsBefore e [] = 0
+skipsBefore e (i ∷ is) = skipAt e (i .place) (i .item) + skipsBefore e is
