@@ -12,5 +12,6 @@ pub mod WriteLaws
 pub mod XorLaws
 pub mod CrcLaws
 pub mod ToldLaws
+pub mod OutcomeLaws
 pub mod Examples
 pub mod OntoLaws

@@ -7,8 +7,10 @@ use lib.Dec.{eqb}
 use lib.IntN.{ℤ}
 use lib.ListN.{getD}
 use Rattle.bits.specs.Told.{Told, Accepted, Refused, OneToOne}
-use Rattle.bits.specs.Field.{Reading, Wrote, wrote}
+use Rattle.bits.specs.Outcome.{Outcome, outcome}
+use Rattle.bits.specs.Field.{Reading}
 use Rattle.bits.specs.Answers.{toldUnsigned, toldSigned, toldWritten}
+use Rattle.bits.proofs.OutcomeLaws.{only-outcome}
 use Rattle.bits.specs.declared.field.Unsigned.{Unsigned}
 use Rattle.bits.specs.declared.field.Unsigned.the-variants as U
 use Rattle.bits.specs.declared.field.Signed.{Signed}
@@ -71,6 +73,5 @@ pub written-one-to-one : OneToOne toldWritten
 written-one-to-one = found-again toldWritten written written-again
 
 -- and of a call that writes, the data that two runs leave are equal too
-pub only-wrote : (d : Wrote) {x y : Written} {s t : List ℕ} → wrote (toldWritten x) s ≡ d → wrote (toldWritten y) t ≡ d → (x ≡ y) × (s ≡ t)
-only-wrote d p q =
-    (written-one-to-one .same (ap (λ r. r .answer) (p ∙ sym q)), ap (λ r. r .bytes) (p ∙ sym q))
+pub only-wrote : (d : Outcome ℕ (List ℕ)) {x y : Written} {s t : List ℕ} → outcome (toldWritten x) s ≡ d → outcome (toldWritten y) t ≡ d → (x ≡ y) × (s ≡ t)
+only-wrote d = only-outcome toldWritten written-one-to-one d

@@ -6,6 +6,7 @@ use lib.ListN.{length, getD, set}
 use lib.Dec.{ltb, eqb}
 use lib.IntN.{ℤ}
 use Rattle.bits.specs.Told.{Told, Accepted, size, width, short, range, room}
+use Rattle.bits.specs.Outcome.{Outcome, outcome, refusing}
 use Rattle.bits.specs.Signed.{twosOf, signmagOf, fitsUnsigned, fitsTwos, fitsSignmag, twosBits, signmagBits}
 
 -- ---- reading
@@ -63,32 +64,26 @@ unfoldable pub putField : List ℕ → ℕ → ℕ → ℕ → List ℕ
 putField s p zero v = s
 putField s p (suc w) v = setBit (putField s p w (v / 2)) (p + w) (v % 2)
 
--- what a call that writes answers, and the data as it leaves them
-pub record Wrote : Type 0 where
-  pub answer : Told ℕ
-  pub bytes : List ℕ
-
-abbrev pub wrote : Told ℕ → List ℕ → Wrote
-wrote a s = record { answer = a; bytes = s }
-
--- the bits v of a number, of which `fits` says whether it fits w bits, written from bit p on; the refusals in their order, then the end bit
-unfoldable pub writeBy : Bool → ℕ → List ℕ → ℕ → ℕ → Wrote
+-- the bits v of a number, of which `fits` says whether it fits w bits, written from bit p on: the refusals in their order; else the end bit, and the data hold the bits
+unfoldable pub writeBy : Bool → ℕ → List ℕ → ℕ → ℕ → Outcome ℕ (List ℕ)
 writeBy fits v s p w =
-    cond (ltb 1023 (length s)) (wrote size s)
-    (cond (eqb w 0) (wrote width s)
-    (cond (ltb 64 w) (wrote width s)
-    (cond (not fits) (wrote (range 0) s)
-    (cond (ltb (length s * 8) (p + w)) (wrote (room w) s)
-    (wrote (Accepted (p + w)) (putField s p w v))))))
+    refusing s
+    (cond (ltb 1023 (length s)) size
+    (cond (eqb w 0) width
+    (cond (ltb 64 w) width
+    (cond (not fits) (range 0)
+    (cond (ltb (length s * 8) (p + w)) (room w)
+    (Accepted (p + w)))))))
+    (λ q. outcome (Accepted q) (putField s p w v))
 
 -- a number from 0 on
-abbrev pub writeUnsigned : List ℕ → ℕ → ℕ → ℕ → Wrote
+abbrev pub writeUnsigned : List ℕ → ℕ → ℕ → ℕ → Outcome ℕ (List ℕ)
 writeUnsigned s p w v = writeBy (fitsUnsigned w v) v s p w
 
 -- a number in two's complement
-abbrev pub writeTwos : List ℕ → ℕ → ℕ → ℤ → Wrote
+abbrev pub writeTwos : List ℕ → ℕ → ℕ → ℤ → Outcome ℕ (List ℕ)
 writeTwos s p w z = writeBy (fitsTwos w z) (twosBits w z) s p w
 
 -- a number as sign-magnitude
-abbrev pub writeSignmag : List ℕ → ℕ → ℕ → ℤ → Wrote
+abbrev pub writeSignmag : List ℕ → ℕ → ℕ → ℤ → Outcome ℕ (List ℕ)
 writeSignmag s p w z = writeBy (fitsSignmag w z) (signmagBits w z) s p w

@@ -5,7 +5,8 @@ use Prim.Native.Nat.{ℕ, _+_, _*_, _/_, _%_, _^_}
 use lib.ListN.{length}
 use lib.Dec.{ltb, eqb}
 use Rattle.bits.specs.Told.{Accepted, room}
-use Rattle.bits.specs.Field.{putField, Wrote, wrote}
+use Rattle.bits.specs.Outcome.{Outcome, outcome, refusing}
+use Rattle.bits.specs.Field.{putField}
 use Rattle.bits.specs.declared.field.Ground.{Ground}
 use Rattle.bits.specs.declared.field.Ground.the-variants.{Firm, Size, Width}
 
@@ -14,8 +15,11 @@ unfoldable pub groundOf : ℕ → ℕ → Ground
 groundOf n w = cond (ltb 1023 n) Size (cond (eqb w 0) Width (cond (ltb 64 w) Width Firm))
 
 -- what is left to decide of a number that fits: whether the data reaches so far
-unfoldable pub placed : List ℕ → ℕ → ℕ → ℕ → Wrote
-placed s p w v = cond (ltb (length s * 8) (p + w)) (wrote (room w) s) (wrote (Accepted (p + w)) (putField s p w v))
+unfoldable pub placed : List ℕ → ℕ → ℕ → ℕ → Outcome ℕ (List ℕ)
+placed s p w v =
+    refusing s
+    (cond (ltb (length s * 8) (p + w)) (room w) (Accepted (p + w)))
+    (λ q. outcome (Accepted q) (putField s p w v))
 
 -- the byte x with b in the m bits that have j bits below them
 unfoldable pub splice : ℕ → ℕ → ℕ → ℕ → ℕ

@@ -2,7 +2,8 @@
 ghost use mathlib.Core.Path.{_≡_};
 ghost use Prim.Native.Nat.{_+_, _*_, _≤_};
 ghost use lib.ListN.{length};
-ghost use Rattle.bits.specs.Field.{readUnsigned, readTwos, readSignmag, wrote, writeUnsigned, writeTwos, writeSignmag};
+ghost use Rattle.bits.specs.Outcome.{outcome};
+ghost use Rattle.bits.specs.Field.{readUnsigned, readTwos, readSignmag, writeUnsigned, writeTwos, writeSignmag};
 ghost use Rattle.bits.specs.Answers.{toldUnsigned, toldSigned, toldWritten};
 ghost use Rattle.bits.specs.Steps.{groundOf, placed};
 use crate::raw;
@@ -82,7 +83,7 @@ pub fn read_signmag(bytes: &[u8], start: usize, width: usize) -> Signed
 
 // Writes an unsigned number into the `width` bits from bit `start` on.
 pub fn write_unsigned(bytes: &mut [u8], start: usize, width: usize, value: u64) -> Written
-    ensures { λ r. ⌜ wrote (toldWritten r) (now (bytes .exit)) ≡ writeUnsigned (now (bytes .entry)) start width value ⌝ }
+    ensures { λ r. ⌜ outcome (toldWritten r) (now (bytes .exit)) ≡ writeUnsigned (now (bytes .entry)) start width value ⌝ }
 {
     match ground_of(bytes.len(), width) {
         Ground::Size => Written::Size,
@@ -98,7 +99,7 @@ pub fn write_unsigned(bytes: &mut [u8], start: usize, width: usize, value: u64) 
 
 // Writes a number in two's complement.
 pub fn write_twos(bytes: &mut [u8], start: usize, width: usize, value: i64) -> Written
-    ensures { λ r. ⌜ wrote (toldWritten r) (now (bytes .exit)) ≡ writeTwos (now (bytes .entry)) start width value ⌝ }
+    ensures { λ r. ⌜ outcome (toldWritten r) (now (bytes .exit)) ≡ writeTwos (now (bytes .entry)) start width value ⌝ }
 {
     match ground_of(bytes.len(), width) {
         Ground::Size => Written::Size,
@@ -114,7 +115,7 @@ pub fn write_twos(bytes: &mut [u8], start: usize, width: usize, value: i64) -> W
 
 // Writes a number as sign and magnitude.
 pub fn write_signmag(bytes: &mut [u8], start: usize, width: usize, value: i64) -> Written
-    ensures { λ r. ⌜ wrote (toldWritten r) (now (bytes .exit)) ≡ writeSignmag (now (bytes .entry)) start width value ⌝ }
+    ensures { λ r. ⌜ outcome (toldWritten r) (now (bytes .exit)) ≡ writeSignmag (now (bytes .entry)) start width value ⌝ }
 {
     match ground_of(bytes.len(), width) {
         Ground::Size => Written::Size,
@@ -154,7 +155,7 @@ fn ground_of(n: usize, width: usize) -> Ground
 // Writes a number that fits its width, where the data reaches so far.
 fn place(bytes: &mut [u8], start: usize, width: usize, number: u64) -> Written
     requires { ⌜ (1 ≤ width) × (width ≤ 64) × (length (now bytes) ≤ 1023) ⌝ }
-    ensures { λ r. ⌜ wrote (toldWritten r) (now (bytes .exit)) ≡ placed (now (bytes .entry)) start width number ⌝ }
+    ensures { λ r. ⌜ outcome (toldWritten r) (now (bytes .exit)) ≡ placed (now (bytes .entry)) start width number ⌝ }
 {
     let all = bytes.len() * 8;
     if all < width {

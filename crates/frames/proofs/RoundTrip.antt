@@ -7,7 +7,8 @@ use native.Mathlib.Omega.{arith}
 use lib.ListN.{length, getD, take, drop, length-append, length-drop}
 use lib.Seq.{take-at, drop-at, take-add, drop-cons, take-append-le, length-take-le}
 use Rattle.bits.specs.Told.{Told, Accepted}
-use Rattle.bits.specs.Field.{field, Wrote}
+use Rattle.bits.specs.Outcome.{Outcome}
+use Rattle.bits.specs.Field.{field}
 use Rattle.bits.specs.Fields.{Bytes}
 use Rattle.bits.specs.Crc.{crc}
 use Rattle.bits.proofs.FieldLaws.{field-split, byte-field}
@@ -106,8 +107,8 @@ module _ (d : List ℕ) (h : length d ≤ 1023) where
       ∙ take-at d (threeBytes (crc front)) (length d) refl
 
   -- so does what framing leaves in an output with room
-  pub written-passes : (out : List ℕ) → length d + 6 ≤ length out → check (writeFrame d out .bytes) ≡ Accepted (wholeOf (frameOf d))
-  written-passes out l = ap (λ (r : Wrote). check (r .bytes)) (sym (is-framed d out h l)) ∙ framed-passes (drop (length (frameOf d)) out)
+  pub written-passes : (out : List ℕ) → length d + 6 ≤ length out → check (writeFrame d out .areas) ≡ Accepted (wholeOf (frameOf d))
+  written-passes out l = ap (λ (r : Outcome ℕ (List ℕ)). check (r .areas)) (sym (is-framed d out h l)) ∙ framed-passes (drop (length (frameOf d)) out)
 
 -- ---- framing what a good frame carries gives the frame back, where its reserved bits are 0
 

@@ -7,7 +7,8 @@ use Prim.Native.Nat.{ℕ}
 use lib.Dec.{eqb}
 use lib.ListN.{getD}
 use Rattle.bits.specs.Told.{Told, Accepted, Refused, OneToOne}
-use Rattle.bits.specs.Field.{Wrote, wrote}
+use Rattle.bits.specs.Outcome.{Outcome, outcome}
+use Rattle.bits.proofs.OutcomeLaws.{only-outcome}
 use Rattle.bits.proofs.ToldLaws.{found-again}
 use Rattle.frames.specs.Frame.{Whole}
 use Rattle.frames.specs.Call as call
@@ -62,9 +63,8 @@ pub framed-one-to-one : OneToOne toldFramed
 framed-one-to-one = found-again toldFramed framed framed-again
 
 -- and the outputs that two runs leave are equal too
-pub only-framed : (d : Wrote) {x y : Framed} {s t : List ℕ} → wrote (toldFramed x) s ≡ d → wrote (toldFramed y) t ≡ d → (x ≡ y) × (s ≡ t)
-only-framed d p q =
-    (framed-one-to-one .same (ap (λ r. r .answer) (p ∙ sym q)), ap (λ r. r .bytes) (p ∙ sym q))
+pub only-framed : (d : Outcome ℕ (List ℕ)) {x y : Framed} {s t : List ℕ} → outcome (toldFramed x) s ≡ d → outcome (toldFramed y) t ≡ d → (x ≡ y) × (s ≡ t)
+only-framed d = only-outcome toldFramed framed-one-to-one d
 
 -- ---- the scan
 

@@ -7,7 +7,7 @@ use lib.ListN.{length, take, drop}
 use lib.Seq.{take-at}
 use borrow.Author.Tests.{lt-ltb, le-ltb}
 use Rattle.bits.specs.Told.{Accepted, size, room}
-use Rattle.bits.specs.Field.{wrote}
+use Rattle.bits.specs.Outcome.{outcome}
 use Rattle.bits.specs.Crc.{crc}
 use Rattle.bits.proofs.CrcLaws.{crc-below}
 use Rattle.bits.specs.Onto.{onto, over}
@@ -15,16 +15,16 @@ use Rattle.frames.specs.Frame.{threeBytes, header, frameOf, writeFrame}
 use Rattle.bits.proofs.OntoLaws.{over-zero, over-onto}
 
 module _ (d out : List ℕ) where
-  pub too-long : 1023 < length d → wrote size out ≡ writeFrame d out
+  pub too-long : 1023 < length d → outcome size out ≡ writeFrame d out
   unfolding writeFrame
   too-long h = simp (lt-ltb _ _ h)
 
   module _ (h : length d ≤ 1023) where
-    pub no-room : length out < length d + 6 → wrote (room (length d + 6)) out ≡ writeFrame d out
+    pub no-room : length out < length d + 6 → outcome (room (length d + 6)) out ≡ writeFrame d out
     unfolding writeFrame
     no-room l = simp (le-ltb _ _ h, lt-ltb _ _ l)
 
-    pub is-framed : length d + 6 ≤ length out → wrote (Accepted (length d + 6)) (onto (frameOf d) out) ≡ writeFrame d out
+    pub is-framed : length d + 6 ≤ length out → outcome (Accepted (length d + 6)) (onto (frameOf d) out) ≡ writeFrame d out
     unfolding writeFrame
     is-framed l = simp (le-ltb _ _ h, le-ltb _ _ l)
 

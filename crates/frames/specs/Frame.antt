@@ -6,7 +6,8 @@ use Prim.Native.Nat.{ℕ, _+_, _*_, _/_, _%_, _^_}
 use lib.ListN.{length, getD, take}
 use lib.Dec.{ltb, eqb}
 use Rattle.bits.specs.Told.{Told, Accepted, Refused, size, room, notValid, incomplete}
-use Rattle.bits.specs.Field.{field, Wrote, wrote}
+use Rattle.bits.specs.Outcome.{Outcome, outcome}
+use Rattle.bits.specs.Field.{field}
 use Rattle.bits.specs.Crc.{crc}
 use Rattle.bits.specs.Onto.{onto}
 use Rattle.frames.specs.Part.{Part, part}
@@ -81,8 +82,8 @@ unfoldable pub frameOf : List ℕ → List ℕ
 frameOf d = summed (header (length d) ++ d)
 
 -- Framing the data d into an output: Size above 1,023 data bytes, then Room below L + 6 bytes of output, which write nothing; else the frame at the front of the output, of which later bytes stay.
-unfoldable pub writeFrame : List ℕ → List ℕ → Wrote
+unfoldable pub writeFrame : List ℕ → List ℕ → Outcome ℕ (List ℕ)
 writeFrame d out =
-    cond (ltb 1023 (length d)) (wrote size out)
-    (cond (ltb (length out) (length d + 6)) (wrote (room (length d + 6)) out)
-    (wrote (Accepted (length d + 6)) (onto (frameOf d) out)))
+    cond (ltb 1023 (length d)) (outcome size out)
+    (cond (ltb (length out) (length d + 6)) (outcome (room (length d + 6)) out)
+    (outcome (Accepted (length d + 6)) (onto (frameOf d) out)))

@@ -2,7 +2,8 @@
 ghost use mathlib.Core.Path.{_≡_};
 ghost use Prim.Native.Nat.{_+_, _*_, _^_, _≤_, _<_};
 ghost use lib.ListN.{length};
-ghost use Rattle.bits.specs.Field.{field, wrote};
+ghost use Rattle.bits.specs.Outcome.{outcome};
+ghost use Rattle.bits.specs.Field.{field};
 ghost use Rattle.bits.specs.Onto.{over};
 ghost use Rattle.frames.specs.Part.{lent, within};
 ghost use Rattle.frames.specs.Frame.{check, framePart, dataPart, threeBytes, writeFrame};
@@ -93,7 +94,7 @@ pub fn data_part(bytes: &[u8]) -> &[u8]
 
 // Writes the frame of the data to the front of the output.
 pub fn write(data: &[u8], out: &mut [u8]) -> Framed
-    ensures { λ r. ⌜ wrote (toldFramed r) (now (out .exit)) ≡ writeFrame (now («data» .entry)) (now (out .entry)) ⌝ }
+    ensures { λ r. ⌜ outcome (toldFramed r) (now (out .exit)) ≡ writeFrame (now («data» .entry)) (now (out .entry)) ⌝ }
 {
     let n = data.len();
     if 1023 < n {

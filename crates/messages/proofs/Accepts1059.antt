@@ -10,7 +10,7 @@ use lib.IntN.{ℤ}
 use lib.Dec.{eqb, ltb}
 use Rattle.bits.specs.Told.{Accepted, tooMany}
 use Rattle.bits.specs.Signed.{fitsTwos}
-use Rattle.bits.specs.Field.{wrote}
+use Rattle.bits.specs.Outcome.{outcome}
 use Rattle.bits.specs.Fields.{total, putAll, Fit}
 use Rattle.bits.proofs.FieldsLaws.{fit-append}
 use Rattle.bits.proofs.SignedLaws.{twos-bits-lt}
@@ -66,7 +66,7 @@ module _ (e : ℕ) (s : List ℕ) (p : ℕ) (rs : List Rec1059) where
     pub fewer : present 0 64 rs ≡ 64 → ⊥
     pub within : p + total (fields1059 rs) ≤ length s * 8
 
-  pub records-written : Writes → writeRecords1059 e s p rs ≡ wrote (Accepted (p + total (fields1059 rs))) (putAll s p (fields1059 rs))
+  pub records-written : Writes → writeRecords1059 e s p rs ≡ outcome (Accepted (p + total (fields1059 rs))) (putAll s p (fields1059 rs))
   unfolding writeRecords1059
   records-written w =
       rw (clean-fine e 0 rs (w .clean), w .thin, ne-eqb (present 0 64 rs) 64 (w .fewer)) (run-put s p (fields1059 rs) (w .within))

@@ -8,7 +8,7 @@ use lib.ListN.{length}
 use lib.IntN.{ℤ}
 use lib.Dec.{eqb, ltb}
 use Rattle.bits.specs.Told.{Accepted}
-use Rattle.bits.specs.Field.{wrote}
+use Rattle.bits.specs.Outcome.{outcome}
 use Rattle.bits.specs.Fields.{total, putAll}
 use Rattle.messages.specs.Every.{Every}
 use Rattle.messages.specs.Records.{Rec1230, rec1230, signalOf1230, records1230}
@@ -37,7 +37,7 @@ module _ (s : List ℕ) (p : ℕ) (rs : List Rec1230) where
     pub single : firstRepeat 0 [] rs ≡ fine
     pub within : p + total (fields1230 rs) ≤ length s * 8
 
-  pub records-written : Writes → writeRecords1230 s p rs ≡ wrote (Accepted (p + total (fields1230 rs))) (putAll s p (fields1230 rs))
+  pub records-written : Writes → writeRecords1230 s p rs ≡ outcome (Accepted (p + total (fields1230 rs))) (putAll s p (fields1230 rs))
   unfolding writeRecords1230
   records-written w = rw (w .clean, w .single) (run-put s p (fields1230 rs) (w .within))
 

@@ -10,7 +10,8 @@ use lib.ListN.{length}
 use lib.IntN.{ℤ}
 use lib.Dec.{eqb, ltb}
 use Rattle.bits.specs.Told.{Told, Accepted, Refused, room, tooMany}
-use Rattle.bits.specs.Field.{bitAt, Wrote, wrote}
+use Rattle.bits.specs.Outcome.{Outcome, outcome}
+use Rattle.bits.specs.Field.{bitAt}
 use Rattle.bits.specs.Fields.{Field, total, putAll, Bytes}
 use Rattle.bits.proofs.FieldsLaws.{length-put-all, put-all-outside, bytes-put-all}
 use Rattle.messages.specs.Writer.{fine, firstFault, unless, putRun}
@@ -19,21 +20,21 @@ use Rattle.messages.specs.Write1059.{fault1059, crowded, present, fields
 use Rattle.messages.specs.Write1230.{fault1230, firstRepeat, fields1230, writeRecords1230, write1230}
 
 -- of a call that writes into s from bit p on
-pub record Keeps (s : List ℕ) (p : ℕ) (w : Wrote) : Type 0 where
-  pub long : length (w .bytes) ≡ length s
-  pub bytes : Bytes s → Bytes (w .bytes)
-  pub outside : {q : ℕ} → w .answer ≡ Accepted q → (k : ℕ) → (k < p) ⊎ (q ≤ k) → bitAt (w .bytes) k ≡ bitAt s k
-  pub refused : {n : ℕ} {carried : List ℕ} → w .answer ≡ Refused n carried → w .bytes ≡ s
+pub record Keeps (s : List ℕ) (p : ℕ) (w : Outcome ℕ (List ℕ)) : Type 0 where
+  pub long : length (w .areas) ≡ length s
+  pub bytes : Bytes s → Bytes (w .areas)
+  pub outside : {q : ℕ} → w .answer ≡ Accepted q → (k : ℕ) → (k < p) ⊎ (q ≤ k) → bitAt (w .areas) k ≡ bitAt s k
+  pub refused : {n : ℕ} {carried : List ℕ} → w .answer ≡ Refused n carried → w .areas ≡ s
 
 module _ (s : List ℕ) (p : ℕ) where
-  keeps-refused : (n : ℕ) (carried : List ℕ) → Keeps s p (wrote (Refused n carried) s)
+  keeps-refused : (n : ℕ) (carried : List ℕ) → Keeps s p (outcome (Refused n carried) s)
   keeps-refused n carried = record { long = refl; bytes = λ b. b; outside = λ e k o. refl; refused = λ e. refl }
 
-  keeps-cond : (n : ℕ) (carried : List ℕ) (b : Bool) (w : Wrote) → Keeps s p w → Keeps s p (cond b (wrote (Refused n carried) s) w)
+  keeps-cond : (n : ℕ) (carried : List ℕ) (b : Bool) (w : Outcome ℕ (List ℕ)) → Keeps s p w → Keeps s p (cond b (outcome (Refused n carried) s) w)
   keeps-cond n carried true w h = keeps-refused n carried
   keeps-cond n carried false w h = h
 
-  keeps-unless : (t : Told Unit) (w : Wrote) → Keeps s p w → Keeps s p (unless s t w)
+  keeps-unless : (t : Told Unit) (w : Outcome ℕ (List ℕ)) → Keeps s p w → Keeps s p (unless s t w)
   keeps-unless (Accepted u) w h = h
   keeps-unless (Refused n carried) w h = keeps-refused n carried
 
@@ -41,7 +42,7 @@ module _ (s : List ℕ) (p : ℕ) where
   unfolding putRun
   keeps-run fs = go (ltb (length s * 8) (p + total fs)) refl
     where
-      go : (b : Bool) → ltb (length s * 8) (p + total fs) ≡ b → Keeps s p (cond b (wrote (room (total fs)) s) (wrote (Accepted (p + total fs)) (putAll s p fs)))
+      go : (b : Bool) → ltb (length s * 8) (p + total fs) ≡ b → Keeps s p (cond b (outcome (room (total fs)) s) (outcome (Accepted (p + total fs)) (putAll s p fs)))
       go true e = keeps-refused 8 (total fs ∷ [])
       go false e =
           let h = ltb-false (length s * 8) (p + total fs) e in

@@ -12,7 +12,8 @@ use lib.Dec.{leb}
 use lib.ListN.{length}
 use types.Run.{OneOf}
 use denote.Enum.Declared.{tagOf}
-use Rattle.bits.specs.Field.{putField, wrote, writeBy}
+use Rattle.bits.specs.Outcome.{outcome}
+use Rattle.bits.specs.Field.{putField, writeBy}
 use Rattle.bits.specs.Fields.{Field, bits, total, putAll}
 use Rattle.bits.specs.Answers.{toldWritten}
 use Rattle.bits.specs.declared.field.Written.{Written}
@@ -105,7 +106,7 @@ not-end : (q : ℕ) → OneOf (1 ∷ 2 ∷ 3 ∷ 4 ∷ []) (tagOf the-type (End 
 not-end q o = ⊎-elim (λ p. omega arith) (λ x. ⊎-elim (λ p. omega arith) (λ y. ⊎-elim (λ p. omega arith) (λ p. omega arith) y) x) o
 
 module _ (fitting : Bool) (v : ℕ) (s : List ℕ) (p w : ℕ) (f : Fits s p (bits w v ∷ [])) (low : 1 ≤ w) (high : w ≤ 64) (g : fitting ≡ true)
-    (r : Written) (t : List ℕ) (e : wrote (toldWritten r) t ≡ writeBy fitting v s p w) where
+    (r : Written) (t : List ℕ) (e : outcome (toldWritten r) t ≡ writeBy fitting v s p w) where
   ended : (r ≡ End (p + w)) × (Did s p (bits w v ∷ []) t (p + w))
   ended =
       let o = only-wrote (writeBy fitting v s p w) e (sym (writes fitting v s p w (f .few) low high g (omega (arith, f .within, total-one w v)))) in

@@ -74,7 +74,7 @@ module _ (t : List ℕ) (few : length t ≤ 1023) where
       ∙ ap (λ (k : ℕ). Accepted (reading (inOrder1059 rs) k)) n
 
 pub reads-back-1059 : (e : ℕ) (s : List ℕ) (p : ℕ) (sats gs : List ℕ) (zs : List ℤ) {q : ℕ} → write1059 e s p sats gs zs .answer ≡ Accepted q
-    → block1059 (write1059 e s p sats gs zs .bytes) p ≡ Accepted (reading (inOrder1059 (records1059 sats gs zs)) q)
+    → block1059 (write1059 e s p sats gs zs .areas) p ≡ Accepted (reading (inOrder1059 (records1059 sats gs zs)) q)
 reads-back-1059 e s p sats gs zs h =
     let c = call-accepted e s p sats gs zs h in
     let rs = records1059 sats gs zs in

@@ -55,7 +55,7 @@ module _ (rs : List Rec1230) (fits : Every Fits rs) where
       ∙ ap (λ (k : ℕ). Accepted (reading ys k)) n
 
 pub reads-back-1230 : (s : List ℕ) (p : ℕ) (gs : List ℕ) (zs : List ℤ) {q : ℕ} → Raw1230 zs → write1230 s p gs zs .answer ≡ Accepted q
-    → block1230 (write1230 s p gs zs .bytes) p ≡ Accepted (reading (inOrder1230 (records1230 gs zs)) q)
+    → block1230 (write1230 s p gs zs .areas) p ≡ Accepted (reading (inOrder1230 (records1230 gs zs)) q)
 reads-back-1230 s p gs zs raw h =
     let c = call-accepted s p gs zs h in
     let rs = records1230 gs zs in

@@ -6,7 +6,8 @@ use Prim.Native.Nat.{ℕ, _+_, _*_, _≤_}
 use native.Mathlib.Omega.{arith}
 use lib.ListN.{length, length-map}
 use Rattle.bits.specs.Told.{Accepted}
-use Rattle.bits.specs.Field.{reading, wrote}
+use Rattle.bits.specs.Outcome.{outcome}
+use Rattle.bits.specs.Field.{reading}
 use Rattle.bits.specs.Fields.{Field, bits, total, Holds, Bytes}
 use Rattle.bits.proofs.FieldsLaws.{put-all-same}
 use Rattle.messages.specs.Every.{Every}
@@ -44,7 +45,7 @@ module _ (e : ℕ) where
       every-join (Writable e) (x .records) (recordsOf xs) (own-writable (x .number) (x .records) (o .0 .low) (o .0 .own) (h .0)) (all-writable xs (o .1) (h .1))
 
   pub written-back-1059 : (s : List ℕ) (p : ℕ) {q : ℕ} (xs : List Sat) → satellites1059 s p ≡ Accepted (reading xs q) → Regular e xs → Bytes s
-      → write1059 e s p (map satelliteOf (recordsOf xs)) (map signalOf1059 (recordsOf xs)) (map biasOf1059 (recordsOf xs)) ≡ wrote (Accepted q) s
+      → write1059 e s p (map satelliteOf (recordsOf xs)) (map signalOf1059 (recordsOf xs)) (map biasOf1059 (recordsOf xs)) ≡ outcome (Accepted q) s
   unfolding fields1059
   written-back-1059 s p {q} xs h regular bytes =
       let rs = recordsOf xs in
@@ -70,4 +71,4 @@ module _ (e : ℕ) where
       })
       ∙ ap (writeRecords1059 e s p) (columns1059 rs)
       ∙ records-written e s p rs w
-      ∙ ap₂ wrote (ap Accepted end) (put-all-same s p (fields1059 rs) in-data bytes stands)
+      ∙ ap₂ outcome (ap Accepted end) (put-all-same s p (fields1059 rs) in-data bytes stands)

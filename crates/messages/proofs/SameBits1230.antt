@@ -7,7 +7,8 @@ use native.Mathlib.Nat.{mod-eq-of-lt}
 use native.Mathlib.Omega.{arith}
 use lib.ListN.{length, length-map}
 use Rattle.bits.specs.Told.{Accepted}
-use Rattle.bits.specs.Field.{field, reading, wrote}
+use Rattle.bits.specs.Outcome.{outcome}
+use Rattle.bits.specs.Field.{field, reading}
 use Rattle.bits.specs.Fields.{Field, bits, total, Holds, Bytes}
 use Rattle.bits.proofs.FieldLaws.{field-lt}
 use Rattle.bits.proofs.FieldsLaws.{put-all-same}
@@ -41,7 +42,7 @@ unfolding isIn
 none-seen g = refl
 
 pub written-back-1230 : (s : List ℕ) (p : ℕ) {q : ℕ} (rs : List Rec1230) → block1230 s p ≡ Accepted (reading rs q) → Bytes s
-    → write1230 s p (map signalOf1230 rs) (map biasOf1230 rs) ≡ wrote (Accepted q) s
+    → write1230 s p (map signalOf1230 rs) (map biasOf1230 rs) ≡ outcome (Accepted q) s
 unfolding block1230 fields1230 Holds total
 written-back-1230 s p {q} rs h bytes =
     let a = field-accepted (λ v. v) s p 4 _ h in
@@ -69,4 +70,4 @@ written-back-1230 s p {q} rs h bytes =
     })
     ∙ ap (writeRecords1230 s p) (columns1230 rs)
     ∙ records-written s p rs w
-    ∙ ap₂ wrote (ap Accepted end) (put-all-same s p (fields1230 rs) in-data bytes stands)
+    ∙ ap₂ outcome (ap Accepted end) (put-all-same s p (fields1230 rs) in-data bytes stands)

@@ -7,7 +7,8 @@ use lib.Dec.{eqb}
 use lib.IntN.{ℤ}
 use lib.ListN.{getD}
 use Rattle.bits.specs.Told.{Told, Accepted, Refused, OneToOne}
-use Rattle.bits.specs.Field.{Wrote, wrote}
+use Rattle.bits.specs.Outcome.{Outcome, outcome}
+use Rattle.bits.proofs.OutcomeLaws.{only-outcome}
 use Rattle.bits.proofs.ToldLaws.{found-again}
 use Rattle.messages.specs.Records.{Counted}
 use Rattle.messages.specs.Read1059.{Read1059, outcome1059}
@@ -106,5 +107,5 @@ pub block-one-to-one : OneToOne toldBlock
 block-one-to-one = found-again toldBlock block block-again
 
 -- two outcomes that a statement allows are equal, the data too
-pub only-block : (d : Wrote) {x y : BlockWritten} {s t : List ℕ} → wrote (toldBlock x) s ≡ d → wrote (toldBlock y) t ≡ d → (x ≡ y) × (s ≡ t)
-only-block d p q = (block-one-to-one .same (ap (λ r. r .answer) (p ∙ sym q)), ap (λ r. r .bytes) (p ∙ sym q))
+pub only-block : (d : Outcome ℕ (List ℕ)) {x y : BlockWritten} {s t : List ℕ} → outcome (toldBlock x) s ≡ d → outcome (toldBlock y) t ≡ d → (x ≡ y) × (s ≡ t)
+only-block d = only-outcome toldBlock block-one-to-one d

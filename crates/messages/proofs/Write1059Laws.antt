@@ -9,7 +9,7 @@ use lib.ListN.{length, getD}
 use lib.IntN.{ℤ}
 use lib.Dec.{ltb}
 use Rattle.bits.specs.Told.{Refused, size, tooMany, Accepted, room}
-use Rattle.bits.specs.Field.{wrote}
+use Rattle.bits.specs.Outcome.{outcome}
 use Rattle.bits.specs.Fields.{bits, total, putAll}
 use Rattle.messages.specs.Records.{Rec1059, records1059}
 use Rattle.messages.specs.Writer.{fine, firstFault, putRun}
@@ -24,12 +24,12 @@ use Rattle.messages.proofs.CrowdLaws.{counts-fit, crowded-is, present-i
 -- ---- records without a fault
 
 module _ (s : List ℕ) (p : ℕ) (rs : List Rec1059) where
-  pub some-crowded : (a : ℕ) → crowded 0 64 rs ≡ tooMany a → wrote (tooMany a) s ≡ writeSound s p rs
+  pub some-crowded : (a : ℕ) → crowded 0 64 rs ≡ tooMany a → outcome (tooMany a) s ≡ writeSound s p rs
   unfolding writeSound
   some-crowded a e = rw e
 
   module _ (c : crowded 0 64 rs ≡ fine) where
-    pub all-present : present 0 64 rs ≡ 64 → wrote (tooMany 64) s ≡ writeSound s p rs
+    pub all-present : present 0 64 rs ≡ 64 → outcome (tooMany 64) s ≡ writeSound s p rs
     unfolding writeSound
     all-present e = rw (c, eq-eqb (present 0 64 rs) 64 e)
 
@@ -48,7 +48,7 @@ module _ (s : List ℕ) (p : ℕ) (sats gs : List ℕ) (zs : List ℤ) (d : Soun
 
   -- k is the lowest satellite that has over 31 biases, or 64
   module _ (k : ℕ) (ek : cond (ltb k 64) (tooMany k) fine ≡ crowdedIn 0 cs) where
-    pub sound-crowded : k < 64 → wrote (tooMany k) s ≡ writeSound s p (records1059 sats gs zs)
+    pub sound-crowded : k < 64 → outcome (tooMany k) s ≡ writeSound s p (records1059 sats gs zs)
     sound-crowded h =
         some-crowded s p (records1059 sats gs zs) k
         (crowd ∙ sym ek ∙ ap (λ (b : Bool). cond b (tooMany k) fine) (lt-ltb k 64 h))
@@ -60,7 +60,7 @@ module _ (s : List ℕ) (p : ℕ) (sats gs : List ℕ) (zs : List ℤ) (d : Soun
       seen : present 0 64 (records1059 sats gs zs) ≡ m
       seen = present-is (records1059 sats gs zs) cs (l .all-counts) counts 64 0 refl ∙ sym em
 
-      pub sound-all : m ≡ 64 → wrote (tooMany 64) s ≡ writeSound s p (records1059 sats gs zs)
+      pub sound-all : m ≡ 64 → outcome (tooMany 64) s ≡ writeSound s p (records1059 sats gs zs)
       sound-all e = all-present s p (records1059 sats gs zs) (crowd ∙ none) (seen ∙ e)
 
       pub sound-counts : (a : ℕ) → a < 64 → getD cs a 0 < 32
@@ -77,9 +77,9 @@ module _ (s : List ℕ) (p : ℕ) (sats gs : List ℕ) (zs : List ℤ) (d : Soun
         begun : Left s p (fields1059 (records1059 sats gs zs)) s p ((bits 6 m ∷ []) ++ satellitesFrom 0 64 (records1059 sats gs zs))
         begun = left-as laid (left-all s p (fields1059 (records1059 sats gs zs)))
 
-        pub sound-room : length s * 8 < p + (6 + m * 11 + length sats * 19) → wrote (room (6 + m * 11 + length sats * 19)) s ≡ writeSound s p (records1059 sats gs zs)
+        pub sound-room : length s * 8 < p + (6 + m * 11 + length sats * 19) → outcome (room (6 + m * 11 + length sats * 19)) s ≡ writeSound s p (records1059 sats gs zs)
         sound-room o =
-            ap (λ (k : ℕ). wrote (room k) s) (sym block)
+            ap (λ (k : ℕ). outcome (room k) s) (sym block)
             ∙ sym (run-room s p (fields1059 (records1059 sats gs zs)) (omega (arith, block)))
             ∙ run-left s p (records1059 sats gs zs) (crowd ∙ none) (λ e. n (sym seen ∙ e))
 
@@ -98,9 +98,9 @@ module _ (s : List ℕ) (p : ℕ) (sats gs : List ℕ) (zs : List ℤ) (d : Soun
             sound-rest = left-fits (satellitesFrom 0 64 (records1059 sats gs zs)) [] rest whole
 
             pub sound-put : (u : List ℕ) → u ≡ putAll t q (satellitesFrom 0 64 (records1059 sats gs zs))
-                → wrote (Accepted (p + (6 + m * 11 + length sats * 19))) u ≡ writeSound s p (records1059 sats gs zs)
+                → outcome (Accepted (p + (6 + m * 11 + length sats * 19))) u ≡ writeSound s p (records1059 sats gs zs)
             sound-put u e =
-                ap₂ (λ (k : ℕ) (x : List ℕ). wrote (Accepted (p + k)) x) (sym block)
+                ap₂ (λ (k : ℕ) (x : List ℕ). outcome (Accepted (p + k)) x) (sym block)
                 (left-none (left-put (satellitesFrom 0 64 (records1059 sats gs zs)) [] rest (record { end = refl; left = e })) .left)
                 ∙ sym (run-put s p (fields1059 (records1059 sats gs zs)) (whole .within))
                 ∙ run-left s p (records1059 sats gs zs) (crowd ∙ none) (λ e. n (sym seen ∙ e))
@@ -108,22 +108,22 @@ module _ (s : List ℕ) (p : ℕ) (sats gs : List ℕ) (zs : List ℤ) (d : Soun
 -- ---- the call
 
 module _ (edition : ℕ) (s : List ℕ) (p : ℕ) (sats gs : List ℕ) (zs : List ℤ) where
-  pub long-data : 1023 < length s → wrote size s ≡ write1059 edition s p sats gs zs
+  pub long-data : 1023 < length s → outcome size s ≡ write1059 edition s p sats gs zs
   unfolding write1059
   long-data h = rw (lt-ltb 1023 (length s) h)
 
   module _ (h : length s ≤ 1023) where
-    pub uneven-signals : (length sats ≡ length gs → ⊥) → wrote size s ≡ write1059 edition s p sats gs zs
+    pub uneven-signals : (length sats ≡ length gs → ⊥) → outcome size s ≡ write1059 edition s p sats gs zs
     unfolding write1059
     uneven-signals d = rw (le-ltb 1023 (length s) h, ne-eqb (length sats) (length gs) d)
 
     module _ (lg : length sats ≡ length gs) where
-      pub uneven-biases : (length sats ≡ length zs → ⊥) → wrote size s ≡ write1059 edition s p sats gs zs
+      pub uneven-biases : (length sats ≡ length zs → ⊥) → outcome size s ≡ write1059 edition s p sats gs zs
       unfolding write1059
       uneven-biases d = rw (le-ltb 1023 (length s) h, eq-eqb (length sats) (length gs) lg, ne-eqb (length sats) (length zs) d)
 
       module _ (lz : length sats ≡ length zs) where
-        pub many-records : 1953 < length sats → wrote size s ≡ write1059 edition s p sats gs zs
+        pub many-records : 1953 < length sats → outcome size s ≡ write1059 edition s p sats gs zs
         unfolding write1059
         many-records m = rw (le-ltb 1023 (length s) h, eq-eqb (length sats) (length gs) lg, eq-eqb (length sats) (length zs) lz, lt-ltb 1953 (length sats) m)
 
@@ -133,7 +133,7 @@ module _ (edition : ℕ) (s : List ℕ) (p : ℕ) (sats gs : List ℕ) (zs : Lis
           by-records = rw (le-ltb 1023 (length s) h, eq-eqb (length sats) (length gs) lg, eq-eqb (length sats) (length zs) lz, le-ltb 1953 (length sats) m)
 
           pub some-fault : {n : ℕ} {carried : List ℕ} → firstFault (fault1059 edition) 0 (records1059 sats gs zs) ≡ Refused n carried
-              → wrote (Refused n carried) s ≡ write1059 edition s p sats gs zs
+              → outcome (Refused n carried) s ≡ write1059 edition s p sats gs zs
           unfolding writeRecords1059
           some-fault e = rw (← by-records, e)
 

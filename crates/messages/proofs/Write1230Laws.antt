@@ -9,7 +9,7 @@ use lib.Dec.{ltb}
 use lib.ListN.{length}
 use lib.IntN.{ℤ}
 use Rattle.bits.specs.Told.{Accepted, size, signal, duplicate, room}
-use Rattle.bits.specs.Field.{wrote}
+use Rattle.bits.specs.Outcome.{outcome}
 use Rattle.bits.specs.Fields.{putAll}
 use Rattle.messages.specs.Put.{Fits}
 use Rattle.messages.specs.Records.{records1230}
@@ -21,17 +21,17 @@ use Rattle.messages.proofs.Signals1230Laws.{fault-by-signals, repeat-by
 use Rattle.messages.proofs.Fields1230Laws.{bits-is}
 
 module _ (s : List ℕ) (p : ℕ) (gs : List ℕ) (zs : List ℤ) where
-  pub long-data : 1023 < length s → wrote size s ≡ write1230 s p gs zs
+  pub long-data : 1023 < length s → outcome size s ≡ write1230 s p gs zs
   unfolding write1230
   long-data h = rw (lt-ltb 1023 (length s) h)
 
   module _ (h : length s ≤ 1023) where
-    pub uneven-lists : (length gs ≡ length zs → ⊥) → wrote size s ≡ write1230 s p gs zs
+    pub uneven-lists : (length gs ≡ length zs → ⊥) → outcome size s ≡ write1230 s p gs zs
     unfolding write1230
     uneven-lists d = rw (le-ltb 1023 (length s) h, ne-eqb (length gs) (length zs) d)
 
     module _ (l : length gs ≡ length zs) where
-      pub many-records : 4 < length gs → wrote size s ≡ write1230 s p gs zs
+      pub many-records : 4 < length gs → outcome size s ≡ write1230 s p gs zs
       unfolding write1230
       many-records m = rw (le-ltb 1023 (length s) h, eq-eqb (length gs) (length zs) l, lt-ltb 4 (length gs) m)
 
@@ -41,7 +41,7 @@ module _ (s : List ℕ) (p : ℕ) (gs : List ℕ) (zs : List ℤ) where
         unfolding write1230
         by-records = rw (le-ltb 1023 (length s) h, eq-eqb (length gs) (length zs) l, le-ltb 4 (length gs) m)
 
-        pub some-unknown : i < length gs → wrote (signal i) s ≡ write1230 s p gs zs
+        pub some-unknown : i < length gs → outcome (signal i) s ≡ write1230 s p gs zs
         unfolding writeRecords1230
         some-unknown k =
             let e : firstFault fault1230 0 (records1230 gs zs) ≡ signal i = fault-by-signals 0 gs zs l ∙ sym ei ∙ ap (λ (b : Bool). cond b (signal i) fine) (lt-ltb i (length gs) k) in
@@ -55,7 +55,7 @@ module _ (s : List ℕ) (p : ℕ) (gs : List ℕ) (zs : List ℤ) where
           no-fault : firstFault fault1230 0 (records1230 gs zs) ≡ fine
           no-fault = fault-by-signals 0 gs zs l ∙ known
 
-          pub some-repeat : j < length gs → wrote (duplicate j) s ≡ write1230 s p gs zs
+          pub some-repeat : j < length gs → outcome (duplicate j) s ≡ write1230 s p gs zs
           unfolding writeRecords1230
           some-repeat o =
               let e : firstRepeat 0 [] (records1230 gs zs) ≡ duplicate j = repeat-by-signals 0 [] gs zs l ∙ sym ej ∙ ap (λ (b : Bool). cond b (duplicate j) fine) (lt-ltb j (length gs) o) in
@@ -68,17 +68,17 @@ module _ (s : List ℕ) (p : ℕ) (gs : List ℕ) (zs : List ℤ) where
                 let e : firstRepeat 0 [] (records1230 gs zs) ≡ fine = repeat-by-signals 0 [] gs zs l ∙ sym ej ∙ ap (λ (b : Bool). cond b (duplicate j) fine) (le-ltb j (length gs) o) in
                 rw (← by-records, no-fault, e)
 
-            pub too-long : length s * 8 < p + (4 + length gs * 16) → wrote (room (4 + length gs * 16)) s ≡ write1230 s p gs zs
+            pub too-long : length s * 8 < p + (4 + length gs * 16) → outcome (room (4 + length gs * 16)) s ≡ write1230 s p gs zs
             too-long n =
                 let b = bits-is gs zs l known in
-                ap (λ (k : ℕ). wrote (room k) s) (sym b) ∙ sym (run-room s p (fields1230 (records1230 gs zs)) (omega (arith, b))) ∙ run-left
+                ap (λ (k : ℕ). outcome (room k) s) (sym b) ∙ sym (run-room s p (fields1230 (records1230 gs zs)) (omega (arith, b))) ∙ run-left
 
             module _ (n : p + (4 + length gs * 16) ≤ length s * 8) where
               pub block-fits : Fits s p (fields1230 (records1230 gs zs))
               block-fits = record { few = h; within = omega (arith, bits-is gs zs l known) }
 
-              pub block-put : (t : List ℕ) → t ≡ putAll s p (fields1230 (records1230 gs zs)) → wrote (Accepted (p + (4 + length gs * 16))) t ≡ write1230 s p gs zs
+              pub block-put : (t : List ℕ) → t ≡ putAll s p (fields1230 (records1230 gs zs)) → outcome (Accepted (p + (4 + length gs * 16))) t ≡ write1230 s p gs zs
               block-put t e =
-                  ap₂ (λ (k : ℕ) (x : List ℕ). wrote (Accepted (p + k)) x) (sym (bits-is gs zs l known)) e
+                  ap₂ (λ (k : ℕ) (x : List ℕ). outcome (Accepted (p + k)) x) (sym (bits-is gs zs l known)) e
                   ∙ sym (run-put s p (fields1230 (records1230 gs zs)) (block-fits .within))
                   ∙ run-left

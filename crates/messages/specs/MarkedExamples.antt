@@ -6,7 +6,8 @@ use Prim.Native.Nat.{ℕ}
 use lib.ListN.{replicate}
 use lib.IntN.{ℤ, pos, negsuc}
 use Rattle.bits.specs.Told.{Told, Accepted, range, notValid, incomplete}
-use Rattle.bits.specs.Field.{Reading, reading, readUnsigned, readTwos, readSignmag, writeTwos, Wrote, wrote}
+use Rattle.bits.specs.Outcome.{Outcome, outcome}
+use Rattle.bits.specs.Field.{Reading, reading, readUnsigned, readTwos, readSignmag, writeTwos}
 use Rattle.bits.specs.Crc.{crc}
 use Rattle.frames.specs.Scan.{scan, framesOf, skippedOf}
 use Rattle.frames.specs.Framing.{decide}
@@ -31,8 +32,8 @@ pub data Example : Type 0 where
   -- the answer to writing a number in two's complement, by its width, at the start of eight zero bytes
   Twos : ℕ → ℤ → Told ℕ → Example
   -- a block written at the start of some bytes, by the lists of its records
-  Write1059 : List ℕ → List ℕ → List ℕ → List ℤ → Wrote → Example
-  Write1230 : List ℕ → List ℕ → List ℤ → Wrote → Example
+  Write1059 : List ℕ → List ℕ → List ℕ → List ℤ → Outcome ℕ (List ℕ) → Example
+  Write1230 : List ℕ → List ℕ → List ℤ → Outcome ℕ (List ℕ) → Example
 
 -- n zero bytes
 abbrev pub zeros : ℕ → List ℕ
@@ -78,7 +79,7 @@ examples =
     Twos 14 (pos 8192) (range 0) ∷
     Twos 14 (pos 10000) (range 0) ∷
     -- 8. 1059, satellite 5, signal 0, bias 100, into five zero bytes: 04 50 80 06 40, end bit 36.
-    Write1059 (zeros 5) (5 ∷ []) (0 ∷ []) (pos 100 ∷ []) (wrote (Accepted 36) (0x04 ∷ 0x50 ∷ 0x80 ∷ 0x06 ∷ 0x40 ∷ [])) ∷
+    Write1059 (zeros 5) (5 ∷ []) (0 ∷ []) (pos 100 ∷ []) (outcome (Accepted 36) (0x04 ∷ 0x50 ∷ 0x80 ∷ 0x06 ∷ 0x40 ∷ [])) ∷
     -- 9. 1230, 2P = -1 and 1C = 1, into five zero bytes: 90 00 1F FF F0, end bit 36.
-    Write1230 (zeros 5) (9 ∷ 2 ∷ []) (negsuc 0 ∷ pos 1 ∷ []) (wrote (Accepted 36) (0x90 ∷ 0x00 ∷ 0x1F ∷ 0xFF ∷ 0xF0 ∷ [])) ∷
+    Write1230 (zeros 5) (9 ∷ 2 ∷ []) (negsuc 0 ∷ pos 1 ∷ []) (outcome (Accepted 36) (0x90 ∷ 0x00 ∷ 0x1F ∷ 0xFF ∷ 0xF0 ∷ [])) ∷
     []

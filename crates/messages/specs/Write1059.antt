@@ -7,7 +7,7 @@ use lib.IntN.{ℤ}
 use lib.Dec.{eqb, ltb}
 use Rattle.bits.specs.Told.{Told, size, satellite, signal, range, tooMany}
 use Rattle.bits.specs.Signed.{fitsTwos, twosBits}
-use Rattle.bits.specs.Field.{Wrote, wrote}
+use Rattle.bits.specs.Outcome.{Outcome, outcome}
 use Rattle.bits.specs.Fields.{Field, bits}
 use Rattle.messages.specs.Signals1059.{isSignal1059}
 use Rattle.messages.specs.Writer.{fine, keep, firstFault, unless, putRun}
@@ -62,7 +62,7 @@ fields1059 rs = bits 6 (present 0 64 rs) ∷ satellitesFrom 0 64 rs
 -- ---- the call
 
 -- records written from bit p on: the first fault, TooMany of one satellite, TooMany of all, Room
-unfoldable pub writeRecords1059 : ℕ → List ℕ → ℕ → List Rec1059 → Wrote
+unfoldable pub writeRecords1059 : ℕ → List ℕ → ℕ → List Rec1059 → Outcome ℕ (List ℕ)
 writeRecords1059 edition s p rs =
     unless s (firstFault (fault1059 edition) 0 rs)
     (unless s (crowded 0 64 rs)
@@ -70,10 +70,10 @@ writeRecords1059 edition s p rs =
     (putRun s p (fields1059 rs))))
 
 -- a call with lists of the parts: Size of the data, of unequal lists, of over 1,953 records; then the records
-unfoldable pub write1059 : ℕ → List ℕ → ℕ → List ℕ → List ℕ → List ℤ → Wrote
+unfoldable pub write1059 : ℕ → List ℕ → ℕ → List ℕ → List ℕ → List ℤ → Outcome ℕ (List ℕ)
 write1059 edition s p sats gs zs =
-    cond (ltb 1023 (length s)) (wrote size s)
-    (cond (not (eqb (length sats) (length gs))) (wrote size s)
-    (cond (not (eqb (length sats) (length zs))) (wrote size s)
-    (cond (ltb 1953 (length sats)) (wrote size s)
+    cond (ltb 1023 (length s)) (outcome size s)
+    (cond (not (eqb (length sats) (length gs))) (outcome size s)
+    (cond (not (eqb (length sats) (length zs))) (outcome size s)
+    (cond (ltb 1953 (length sats)) (outcome size s)
     (writeRecords1059 edition s p (records1059 sats gs zs)))))

@@ -7,7 +7,7 @@ use lib.IntN.{ℤ}
 use lib.Dec.{eqb, ltb}
 use Rattle.bits.specs.Told.{Told, size, signal, duplicate}
 use Rattle.bits.specs.Signed.{twosBits}
-use Rattle.bits.specs.Field.{Wrote, wrote}
+use Rattle.bits.specs.Outcome.{Outcome, outcome}
 use Rattle.bits.specs.Fields.{Field, bits}
 use Rattle.messages.specs.Records.{Rec1230, rec1230, records1230}
 use Rattle.messages.specs.Read1230.{maskSignals}
@@ -52,16 +52,16 @@ unfoldable pub fields1230 : List Rec1230 → List Field
 fields1230 rs = bits 4 (maskOf maskSignals rs) ∷ inMaskOrder maskSignals rs
 
 -- records written from bit p on: the first Signal, the first Duplicate, Room
-unfoldable pub writeRecords1230 : List ℕ → ℕ → List Rec1230 → Wrote
+unfoldable pub writeRecords1230 : List ℕ → ℕ → List Rec1230 → Outcome ℕ (List ℕ)
 writeRecords1230 s p rs =
     unless s (firstFault fault1230 0 rs)
     (unless s (firstRepeat 0 [] rs)
     (putRun s p (fields1230 rs)))
 
 -- a call with lists of the parts: Size of the data, of unequal lists, of over 4 records; then the records
-unfoldable pub write1230 : List ℕ → ℕ → List ℕ → List ℤ → Wrote
+unfoldable pub write1230 : List ℕ → ℕ → List ℕ → List ℤ → Outcome ℕ (List ℕ)
 write1230 s p gs zs =
-    cond (ltb 1023 (length s)) (wrote size s)
-    (cond (not (eqb (length gs) (length zs))) (wrote size s)
-    (cond (ltb 4 (length gs)) (wrote size s)
+    cond (ltb 1023 (length s)) (outcome size s)
+    (cond (not (eqb (length gs) (length zs))) (outcome size s)
+    (cond (ltb 4 (length gs)) (outcome size s)
     (writeRecords1230 s p (records1230 gs zs))))

@@ -8,7 +8,7 @@ use lib.IntN.{ℤ, pos}
 use lib.Dec.{eqb, ltb}
 use Rattle.bits.specs.Told.{Told, satellite, signal, range, tooMany}
 use Rattle.bits.specs.Signed.{fitsTwos}
-use Rattle.bits.specs.Field.{Wrote}
+use Rattle.bits.specs.Outcome.{Outcome}
 use Rattle.messages.specs.Columns.{inMask}
 use Rattle.messages.specs.Writer.{fine, unless, putRun}
 use Rattle.messages.specs.Records.{Rec1059, rec1059}
@@ -43,7 +43,7 @@ pub record Sound (sats gs : List ℕ) (zs : List ℤ) : Type 0 where
   pub fits : (i : ℕ) → i < length sats → fitsTwos 14 (getD zs i (pos 0)) ≡ true
 
 -- what is left to decide of them
-unfoldable pub writeSound : List ℕ → ℕ → List Rec1059 → Wrote
+unfoldable pub writeSound : List ℕ → ℕ → List Rec1059 → Outcome ℕ (List ℕ)
 writeSound s p rs =
     unless s (crowded 0 64 rs)
     (unless s (cond (eqb (present 0 64 rs) 64) (tooMany 64) fine)

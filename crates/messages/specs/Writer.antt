@@ -5,7 +5,7 @@ use Prim.Native.Nat.{ℕ, suc, _+_, _*_}
 use lib.ListN.{length}
 use lib.Dec.{ltb}
 use Rattle.bits.specs.Told.{Told, Accepted, Refused, andThen, room}
-use Rattle.bits.specs.Field.{Wrote, wrote}
+use Rattle.bits.specs.Outcome.{Outcome, outcome}
 use Rattle.bits.specs.Fields.{Field, total, putAll}
 
 -- nothing is refused
@@ -23,12 +23,12 @@ keep true r rs = r ∷ rs
 keep false r rs = rs
 
 -- a refusal leaves the data as they came
-abbrev pub unless : List ℕ → Told Unit → Wrote → Wrote
+abbrev pub unless : List ℕ → Told Unit → Outcome ℕ (List ℕ) → Outcome ℕ (List ℕ)
 unless s (Accepted u) onward = onward
-unless s (Refused n carried) onward = wrote (Refused n carried) s
+unless s (Refused n carried) onward = outcome (Refused n carried) s
 
 -- a run of fields from bit p on, where the data reaches so far; the answer is the end bit
-unfoldable pub putRun : List ℕ → ℕ → List Field → Wrote
+unfoldable pub putRun : List ℕ → ℕ → List Field → Outcome ℕ (List ℕ)
 putRun s p fs =
-    cond (ltb (length s * 8) (p + total fs)) (wrote (room (total fs)) s)
-    (wrote (Accepted (p + total fs)) (putAll s p fs))
+    cond (ltb (length s * 8) (p + total fs)) (outcome (room (total fs)) s)
+    (outcome (Accepted (p + total fs)) (putAll s p fs))

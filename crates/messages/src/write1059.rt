@@ -7,7 +7,7 @@ ghost use lib.ListN.{length, getD};
 ghost use lib.Dec.{ltb, eqb};
 ghost use Rattle.bits.specs.Told.{tooMany};
 ghost use Rattle.bits.specs.Signed.{fitsTwos, twosBits};
-ghost use Rattle.bits.specs.Field.{wrote};
+ghost use Rattle.bits.specs.Outcome.{outcome};
 ghost use Rattle.bits.specs.Fields.{bits, putAll};
 ghost use Rattle.messages.specs.Answers.{toldBlock};
 ghost use Rattle.messages.specs.Put.{Fits, Did};
@@ -29,7 +29,7 @@ pub fn write(
     signals: &[u8],
     biases: &[i16],
 ) -> BlockWritten
-    ensures { λ r. ⌜ wrote (toldBlock r) (now (bytes .exit)) ≡ write1059 1 (now (bytes .entry)) start (now (satellites .entry)) (now (signals .entry)) (now (biases .entry)) ⌝ }
+    ensures { λ r. ⌜ outcome (toldBlock r) (now (bytes .exit)) ≡ write1059 1 (now (bytes .entry)) start (now (satellites .entry)) (now (signals .entry)) (now (biases .entry)) ⌝ }
 {
     write_edition(1, bytes, start, satellites, signals, biases)
 }
@@ -43,7 +43,7 @@ fn write_edition(
     signals: &[u8],
     biases: &[i16],
 ) -> BlockWritten
-    ensures { λ r. ⌜ wrote (toldBlock r) (now (bytes .exit)) ≡ write1059 edition (now (bytes .entry)) start (now (satellites .entry)) (now (signals .entry)) (now (biases .entry)) ⌝ }
+    ensures { λ r. ⌜ outcome (toldBlock r) (now (bytes .exit)) ≡ write1059 edition (now (bytes .entry)) start (now (satellites .entry)) (now (signals .entry)) (now (biases .entry)) ⌝ }
 {
     let n = satellites.len();
     if 1023 < bytes.len() {
@@ -114,7 +114,7 @@ fn write_sound(
     biases: &[i16],
 ) -> BlockWritten
     requires { ⌜ (length (now bytes) ≤ 1023) × Sound (now satellites) (now signals) (now biases) ⌝ }
-    ensures { λ r. ⌜ wrote (toldBlock r) (now (bytes .exit)) ≡ writeSound (now (bytes .entry)) start (records1059 (now (satellites .entry)) (now (signals .entry)) (now (biases .entry))) ⌝ }
+    ensures { λ r. ⌜ outcome (toldBlock r) (now (bytes .exit)) ≡ writeSound (now (bytes .entry)) start (records1059 (now (satellites .entry)) (now (signals .entry)) (now (biases .entry))) ⌝ }
 {
     let n = satellites.len();
     let mut heads = [n as u16; 64];

@@ -6,7 +6,7 @@ ghost use Prim.Native.Nat.{_≤_};
 ghost use lib.ListN.{length};
 ghost use lib.Dec.{ltb};
 ghost use Rattle.bits.specs.Told.{signal as signalAt, duplicate};
-ghost use Rattle.bits.specs.Field.{wrote};
+ghost use Rattle.bits.specs.Outcome.{outcome};
 ghost use Rattle.bits.specs.Fields.{putAll};
 ghost use Rattle.messages.specs.Answers.{toldBlock};
 ghost use Rattle.messages.specs.Put.{Fits, Did};
@@ -22,7 +22,7 @@ use crate::read1230::MASK_SIGNALS;
 // Writes the block of the records from bit `start` on, in the order of the mask, whatever order the list has. Record i is
 // signal i and bias i of two lists of one length.
 pub fn write(bytes: &mut [u8], start: usize, signals: &[u8], biases: &[i16]) -> BlockWritten
-    ensures { λ r. ⌜ wrote (toldBlock r) (now (bytes .exit)) ≡ write1230 (now (bytes .entry)) start (now (signals .entry)) (now (biases .entry)) ⌝ }
+    ensures { λ r. ⌜ outcome (toldBlock r) (now (bytes .exit)) ≡ write1230 (now (bytes .entry)) start (now (signals .entry)) (now (biases .entry)) ⌝ }
 {
     let n = signals.len();
     if 1023 < bytes.len() {

@@ -8,8 +8,9 @@ use lib.IntN.{ℤ}
 use lib.Dec.{eqb}
 use borrow.Author.Tests.{eq-eqb, ne-eqb}
 use Rattle.bits.specs.Told.{Told, Accepted}
-use Rattle.bits.specs.Field.{Wrote, wrote}
-use Rattle.frames.specs.Call.{FedAnswer, Outcome, outcome}
+use Rattle.bits.specs.Outcome.{Outcome, outcome}
+use Rattle.frames.specs.Call as call
+use Rattle.frames.specs.Call.{FedAnswer}
 use Rattle.messages.specs.Records.{Counted}
 use Rattle.messages.specs.Read1059.{Read1059, outcome1059}
 use Rattle.messages.specs.Read1230.{Read1230, outcome1230}
@@ -56,14 +57,14 @@ found values e h q o = read values e h q (ap Accepted o)
 
 -- ---- a call that writes bytes
 
-pub not-written : (s : List ℕ) (w : Wrote) (e : List ℕ) → (length e ≡ 8 → ⊥) → returned 9 e s ≡ writes s w e
+pub not-written : (s : List ℕ) (w : Outcome ℕ (List ℕ)) (e : List ℕ) → (length e ≡ 8 → ⊥) → returned 9 e s ≡ writes s w e
 unfolding writes
-not-written s w e n = not-sized endValues e s (w .answer) (w .bytes) n
+not-written s w e n = not-sized endValues e s (w .answer) (w .areas) n
 
-pub written : (s : List ℕ) {told : Told ℕ} {t : List ℕ} {w : Wrote} (e : List ℕ) {r : ℕ} {e' : List ℕ}
-    → length e ≡ 8 → numbers r e' ≡ inNumbers endValues told → wrote told t ≡ w → returned r e' t ≡ writes s w e
+pub written : (s : List ℕ) {told : Told ℕ} {t : List ℕ} {w : Outcome ℕ (List ℕ)} (e : List ℕ) {r : ℕ} {e' : List ℕ}
+    → length e ≡ 8 → numbers r e' ≡ inNumbers endValues told → outcome told t ≡ w → returned r e' t ≡ writes s w e
 unfolding writes
-written s e h q o = sized endValues (λ (w : Wrote). w .answer) (λ (w : Wrote). w .bytes) e s h q o
+written s e h q o = sized endValues (λ (w : Outcome ℕ (List ℕ)). w .answer) (λ (w : Outcome ℕ (List ℕ)). w .areas) e s h q o
 
 -- ---- a call of the scanner
 
@@ -71,19 +72,19 @@ either : {A : Type 0} (b : Bool) {x y : A} → x ≡ y → x ≡ cond b y x
 either true e = e
 either false e = refl
 
-pub not-fed : (a o : List ℕ) (w : Outcome) (e : List ℕ) → (length e ≡ 8 → ⊥) → returned 9 e (a, o) ≡ feeds a o w e
+pub not-fed : (a o : List ℕ) (w : call.Outcome) (e : List ℕ) → (length e ≡ 8 → ⊥) → returned 9 e (a, o) ≡ feeds a o w e
 unfolding feeds
 not-fed a o w e n = either (eqb (length a) 1029) (not-sized fedValues e (a, o) (w .answer) (w .held, w .out) n)
 
-pub not-held : (a o : List ℕ) (w : Outcome) (e : List ℕ) → (length a ≡ 1029 → ⊥) → returned 9 e (a, o) ≡ feeds a o w e
+pub not-held : (a o : List ℕ) (w : call.Outcome) (e : List ℕ) → (length a ≡ 1029 → ⊥) → returned 9 e (a, o) ≡ feeds a o w e
 unfolding feeds
 not-held a o w e n = simp (ne-eqb (length a) 1029 n)
 
-pub fed : (a o : List ℕ) {told : Told FedAnswer} {a' o' : List ℕ} {w : Outcome} (e : List ℕ) {r : ℕ} {e' : List ℕ} → length a ≡ 1029
-    → length e ≡ 8 → numbers r e' ≡ inNumbers fedValues told → outcome told a' o' ≡ w → returned r e' (a', o') ≡ feeds a o w e
+pub fed : (a o : List ℕ) {told : Told FedAnswer} {a' o' : List ℕ} {w : call.Outcome} (e : List ℕ) {r : ℕ} {e' : List ℕ} → length a ≡ 1029
+    → length e ≡ 8 → numbers r e' ≡ inNumbers fedValues told → call.outcome told a' o' ≡ w → returned r e' (a', o') ≡ feeds a o w e
 unfolding feeds
 fed a o e k h q p =
-    sized fedValues (λ (w : Outcome). w .answer) (λ (w : Outcome). (w .held, w .out)) e (a, o) h q p
+    sized fedValues (λ (w : call.Outcome). w .answer) (λ (w : call.Outcome). (w .held, w .out)) e (a, o) h q p
     ∙ simp (eq-eqb (length a) 1029 k)
 
 -- ---- reading a bias block

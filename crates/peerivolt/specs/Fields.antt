@@ -3,7 +3,8 @@ use mathlib.Core.List.{List, [], _∷_}
 use Prim.Native.Nat.{ℕ}
 use lib.IntN.{ℤ}
 use Rattle.bits.specs.Signed.{twosBits}
-use Rattle.bits.specs.Field.{Reading, Wrote}
+use Rattle.bits.specs.Outcome.{Outcome}
+use Rattle.bits.specs.Field.{Reading}
 use Rattle.peerivolt.specs.Extra.{Returned, answered}
 
 -- [0] the value
@@ -19,5 +20,5 @@ abbrev pub endValues : ℕ → List ℕ
 endValues q = q ∷ []
 
 -- a call that is lent the bytes s to write, with the outcome w
-unfoldable pub writes : List ℕ → Wrote → List ℕ → Returned (List ℕ)
-writes s w e = answered endValues e s (w .answer) (w .bytes)
+unfoldable pub writes : List ℕ → Outcome ℕ (List ℕ) → List ℕ → Returned (List ℕ)
+writes s w e = answered endValues e s (w .answer) (w .areas)

@@ -3,7 +3,7 @@ use mathlib.Core.Path.{ap, _∙_}
 use native.Mathlib.Omega.{arith}
 use borrow.Author.Needs.{needs}
 use Rattle.bits.specs.Told.{Accepted}
-use Rattle.bits.specs.Field.{wrote}
+use Rattle.bits.specs.Outcome.{outcome}
 use Rattle.bits.proofs.WriteLaws.{placed-room, placed-end}
 use Rattle.bits.proofs.field.place.Statement.{statement}
 use Rattle.bits.proofs.field.place.Tie as tie
@@ -27,7 +27,7 @@ same-length : tie.Need-same-length
 same-length c = search needs
 
 returns-3 : tie.Need-returns-3
-returns-3 c = ap (wrote (Accepted _)) (c .before .before .put-field .ensures) ∙ placed-end _ _ _ _ (omega arith)
+returns-3 c = ap (outcome (Accepted _)) (c .before .before .put-field .ensures) ∙ placed-end _ _ _ _ (omega arith)
 
 pub place-spec : {M : Type 1} → statement M
 place-spec =

@@ -5,7 +5,7 @@ use native.Mathlib.Omega.{arith}
 use lib.ListN.{length}
 use borrow.Author.Needs.{needs}
 use Rattle.bits.specs.Told.{Accepted}
-use Rattle.bits.specs.Field.{wrote}
+use Rattle.bits.specs.Outcome.{outcome}
 use Rattle.frames.proofs.WriteLaws.{too-long, no-room, is-framed, sum-below, parts-framed}
 use Rattle.frames.proofs.frame.write.Statement.{statement}
 use Rattle.frames.proofs.frame.write.Tie as tie
@@ -65,7 +65,7 @@ returns-3 : tie.Need-returns-3
 returns-3 c =
     let a = c .before .before .before .before .before .before .before .before .before .before .before .before .before .before .before .before .before .before .before .args in
     let n = length (a .«data» .now) in
-    ap (wrote (Accepted (n + 6)))
+    ap (outcome (Accepted (n + 6)))
     (parts-framed (a .«data» .now) (a .out .now) _ _ _ _ (omega arith)
     (c .before .before .before .before .before .before .before .before .before .before .before .before .before .put-three .ensures) (c .before .before .before .before .before .before .before .before .before .put-at .ensures) (c .before .before .before .before .crc24q .ensures) (c .before .before .put-three2 .ensures))
     ∙ is-framed (a .«data» .now) (a .out .now) (omega arith) (omega arith)

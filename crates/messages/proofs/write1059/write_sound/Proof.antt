@@ -6,7 +6,7 @@ use native.Mathlib.Omega.{arith}
 use borrow.Author.Tests.{leb-true, leb-false, not-true, not-false}
 use lib.ListN.{length, getD}
 use Rattle.bits.specs.Told.{Accepted}
-use Rattle.bits.specs.Field.{wrote}
+use Rattle.bits.specs.Outcome.{outcome}
 use Rattle.bits.specs.Fields.{bits, putAll}
 use Rattle.messages.specs.Put.{Fits, Did}
 use Rattle.messages.specs.Records.{Rec1059, records1059}
@@ -83,7 +83,7 @@ module _ (c : tie.Else3) (t : List ℕ) (q : ℕ) (d : Did (start c .args .bytes
       (c .before .before .if2 .left) (s .pre .0) (room c) t q d
 
   written : (u : List ℕ) → u ≡ putAll t q (satellitesFrom 0 64 (records c))
-      → wrote (Accepted (start c .args .start + size c)) u ≡ writeSound (start c .args .bytes .now) (start c .args .start) (records c)
+      → outcome (Accepted (start c .args .start + size c)) u ≡ writeSound (start c .args .bytes .now) (start c .args .start) (records c)
   written u e =
       let s = start c in
       let a = s .args in
