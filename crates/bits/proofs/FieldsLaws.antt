@@ -2,14 +2,79 @@
 use mathlib.Core.Path.{_≡_, refl, sym, ap, subst, _∙_}
 use mathlib.Core.Logic.{_⊎_, inl, inr}
 use mathlib.Core.List.{List, [], _∷_, _++_}
-use Prim.Native.Nat.{ℕ, _+_, _*_, _≤_, _<_}
+use Prim.Native.Nat.{ℕ, _+_, _*_, _^_, _≤_, _<_}
 use native.Mathlib.Nat.{add-zero, zero-add, add-assoc}
 use native.Mathlib.Omega.{arith}
 use lib.ListN.{length}
-use Rattle.bits.specs.Field.{bitAt, putField}
+use Rattle.bits.specs.Field.{bitAt, field, putField}
 use Rattle.bits.specs.Fields.{Field, bits, total, putAll, Holds, Fit, Bytes}
 use Rattle.bits.proofs.BitLaws.{length-put, put-outside, field-ext, read-back-fits}
 use Rattle.bits.proofs.SameBits.{bytes-put, put-same}
+
+-- ---- the equations of a run: for the layers above, which cite them in place of the definitions
+
+pub total-none : total [] ≡ 0
+unfolding total
+total-none = refl
+
+pub total-next : (w v : ℕ) (fs : List Field) → total (bits w v ∷ fs) ≡ w + total fs
+unfolding total
+total-next w v fs = refl
+
+pub total-one : (w v : ℕ) → total (bits w v ∷ []) ≡ w
+total-one w v = total-next w v [] ∙ ap (λ (n : ℕ). w + n) total-none ∙ add-zero w
+
+module _ (s : List ℕ) (p : ℕ) where
+  pub put-none : putAll s p [] ≡ s
+  unfolding putAll
+  put-none = refl
+
+  pub put-next : (w v : ℕ) (fs : List Field) → putAll s p (bits w v ∷ fs) ≡ putAll (putField s p w v) (p + w) fs
+  unfolding putAll
+  put-next w v fs = refl
+
+  pub put-one : (w v : ℕ) → putAll s p (bits w v ∷ []) ≡ putField s p w v
+  unfolding putAll
+  put-one w v = refl
+
+  pub holds-none : Holds s p []
+  unfolding Holds
+  holds-none = tt
+
+module _ (s : List ℕ) (p w v : ℕ) (fs : List Field) where
+  pub holds-next : field s p w ≡ v → Holds s (p + w) fs → Holds s p (bits w v ∷ fs)
+  unfolding Holds
+  holds-next e h = (e, h)
+
+  pub holds-first : Holds s p (bits w v ∷ fs) → field s p w ≡ v
+  unfolding Holds
+  holds-first h = h .0
+
+  pub holds-rest : Holds s p (bits w v ∷ fs) → Holds s (p + w) fs
+  unfolding Holds
+  holds-rest h = h .1
+
+pub holds-one : (s : List ℕ) (p w v : ℕ) → field s p w ≡ v → Holds s p (bits w v ∷ [])
+holds-one s p w v e = holds-next s p w v [] e (holds-none s (p + w))
+
+pub fit-none : Fit []
+unfolding Fit
+fit-none = tt
+
+module _ (w v : ℕ) (fs : List Field) where
+  pub fit-next : v < 2 ^ w → Fit fs → Fit (bits w v ∷ fs)
+  unfolding Fit
+  fit-next h f = (h, f)
+
+  pub fit-first : Fit (bits w v ∷ fs) → v < 2 ^ w
+  unfolding Fit
+  fit-first f = f .0
+
+  pub fit-rest : Fit (bits w v ∷ fs) → Fit fs
+  unfolding Fit
+  fit-rest f = f .1
+
+-- ---- laws
 
 pub total-append : (xs ys : List Field) → total (xs ++ ys) ≡ total xs + total ys
 unfolding total

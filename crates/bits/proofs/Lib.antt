@@ -13,5 +13,6 @@ pub mod XorLaws
 pub mod CrcLaws
 pub mod ToldLaws
 pub mod OutcomeLaws
+pub mod OnlyLaws
 pub mod Examples
 pub mod OntoLaws
