@@ -11,6 +11,7 @@ pub mod ReadLaws
 pub mod WriteLaws
 pub mod XorLaws
 pub mod CrcLaws
+pub mod ThreeLaws
 pub mod ToldLaws
 pub mod OutcomeLaws
 pub mod OnlyLaws

@@ -1,5 +1,5 @@
 -- CRC-24Q, bit by bit: polynomial 864CFB without its leading 1, start 0, most significant bit first, no final change. Assumes nothing.
-use mathlib.Core.List.{List, [], _∷_}
+use mathlib.Core.List.{List, [], _∷_, _++_}
 use Prim.Native.Nat.{ℕ, zero, suc, _*_, _/_, _%_, _^_}
 use lib.Bits.{bitXor}
 
@@ -30,3 +30,11 @@ unfoldable pub xors : List ℕ → List ℕ → List ℕ
 xors [] t = []
 xors (a ∷ s) [] = []
 xors (a ∷ s) (b ∷ t) = bitXor a b ∷ xors s t
+
+-- a number of 24 bits in three bytes, highest first
+abbrev pub threeBytes : ℕ → List ℕ
+threeBytes v = v / 2 ^ 16 ∷ v / 2 ^ 8 % 2 ^ 8 ∷ v % 2 ^ 8 ∷ []
+
+-- bytes, and their checksum behind them
+abbrev pub summed : List ℕ → List ℕ
+summed s = s ++ threeBytes (crc s)

@@ -1,6 +1,7 @@
 pub mod Told
 pub mod Outcome
 pub mod Onto
+pub mod Part
 pub mod Field
 pub mod Signed
 pub mod Answers

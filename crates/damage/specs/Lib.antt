@@ -1,0 +1,3 @@
+pub mod Damage
+pub mod Compare
+pub mod Answers
