@@ -3,12 +3,15 @@ pub mod UndoLaws
 pub mod OrderLaws
 pub mod ColumnLaws
 pub mod Signals1059Laws
+pub mod NamedLaws
 pub mod MetresLaws
 pub mod ToldLaws
+pub mod OnlyLaws
 pub mod AcceptLaws
 pub mod EveryLaws
 pub mod ManyLaws
 pub mod WriterLaws
+pub mod StandLaws
 pub mod Biases1059
 pub mod Satellites1059Laws
 pub mod AscendingLaws
@@ -21,6 +24,9 @@ pub mod RepeatLaws
 pub mod Accepts1230
 pub mod ReadBack1230
 pub mod SameBits1230
+pub mod InOrderLaws
+pub mod Calls1059
+pub mod Calls1230
 pub mod ExtentLaws
 pub mod RefusalLaws
 pub mod KeepLaws

@@ -1,4 +1,4 @@
--- What is written into the bias block of message 1059 reads back, satellites ascending and those of one in list order. Assumes nothing.
+-- The bias block of message 1059 that a call wrote is there, satellites ascending and those of one in list order. Assumes nothing.
 use mathlib.Core.Path.{_≡_, sym, ap, ap₂, _∙_}
 use mathlib.Core.Bool.{cond}
 use mathlib.Core.List.{List, [], _∷_, _++_}
@@ -73,9 +73,10 @@ module _ (t : List ℕ) (few : length t ≤ 1023) where
       ∙ satellites-read e rs w 64 0 (p + 6) (h .1) (omega arith)
       ∙ ap (λ (k : ℕ). Accepted (reading (inOrder1059 rs) k)) n
 
-pub reads-back-1059 : (e : ℕ) (s : List ℕ) (p : ℕ) (sats gs : List ℕ) (zs : List ℤ) {q : ℕ} → write1059 e s p sats gs zs .answer ≡ Accepted q
+-- a block that was written is there
+pub block-again-1059 : (e : ℕ) (s : List ℕ) (p : ℕ) (sats gs : List ℕ) (zs : List ℤ) {q : ℕ} → write1059 e s p sats gs zs .answer ≡ Accepted q
     → block1059 (write1059 e s p sats gs zs .areas) p ≡ Accepted (reading (inOrder1059 (records1059 sats gs zs)) q)
-reads-back-1059 e s p sats gs zs h =
+block-again-1059 e s p sats gs zs h =
     let c = call-accepted e s p sats gs zs h in
     let rs = records1059 sats gs zs in
     let w = records-accepted e s p rs (c .1) in

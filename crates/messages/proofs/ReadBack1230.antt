@@ -1,20 +1,18 @@
--- What is written into the bias block of message 1230 reads back in the order of the mask. Assumes nothing.
+-- The bias block of message 1230 that a call wrote is there, in the order of the mask. Assumes nothing.
 use mathlib.Core.Path.{_≡_, sym, ap, subst, _∙_}
-use mathlib.Core.Bool.{true}
 use mathlib.Core.List.{List, [], _∷_, map}
-use Prim.Native.Nat.{ℕ, suc, _+_, _*_, _%_, _^_, _≤_}
+use Prim.Native.Nat.{ℕ, _+_, _*_, _%_, _^_, _≤_}
 use native.Mathlib.Nat.{mod-eq-of-lt}
 use native.Mathlib.Omega.{arith}
-use lib.ListN.{length, getD}
-use lib.IntN.{ℤ, pos}
+use lib.ListN.{length}
+use lib.IntN.{ℤ}
 use Rattle.bits.specs.Told.{Accepted}
 use Rattle.bits.specs.Field.{field, reading}
-use Rattle.bits.specs.Signed.{fitsTwos}
 use Rattle.bits.specs.Fields.{total, Holds, Fit}
 use Rattle.bits.proofs.SignedLaws.{twos-bits-lt}
 use Rattle.messages.specs.Every.{Every}
 use Rattle.messages.specs.Records.{Rec1230, rec1230, biasOf1230, records1230}
-use Rattle.messages.specs.Raw1230.{Raw1230}
+use Rattle.messages.specs.I16.{OfI16}
 use Rattle.messages.specs.Read1230.{maskSignals, biasesAt, block1230}
 use Rattle.messages.specs.Write1230.{ofSignal, maskOf, biasFields16, inMaskOrder, fields1230, write1230}
 use Rattle.messages.specs.InOrder.{inOrder1230}
@@ -23,13 +21,14 @@ use Rattle.messages.proofs.Biases1230.{Fits, biases-read}
 use Rattle.messages.proofs.Mask1230Laws.{mask-lt, order-signals, order-biases, order-fits}
 use Rattle.messages.proofs.WriterLaws.{reads-run}
 use Rattle.messages.proofs.RepeatLaws.{once}
+use Rattle.messages.proofs.I16Laws.{all-fit}
 use Rattle.messages.proofs.Accepts1230.{records-written, records-accepted, call-written, call-accepted}
 
-raw-fits : (gs : List ℕ) (zs : List ℤ) → ((i : ℕ) → fitsTwos 16 (getD zs i (pos 0)) ≡ true) → Every Fits (records1230 gs zs)
+raw-fits : (gs : List ℕ) (zs : List ℤ) → OfI16 zs → Every Fits (records1230 gs zs)
 unfolding records1230
 raw-fits [] zs f = tt
 raw-fits (g ∷ gs) [] f = tt
-raw-fits (g ∷ gs) (z ∷ zs) f = (f 0, raw-fits gs zs (λ i. f (suc i)))
+raw-fits (g ∷ gs) (z ∷ zs) f = (all-fit z (f .0 .sfits), raw-fits gs zs (f .1))
 
 fit-biases : (rs : List Rec1230) → Every Fits rs → Fit (biasFields16 (map biasOf1230 rs))
 unfolding biasFields16 Fit
@@ -54,12 +53,13 @@ module _ (rs : List Rec1230) (fits : Every Fits rs) where
       ∙ biases-read t few ys (p + 4) (order-fits rs maskSignals fits) (subst (Holds t (p + 4)) o (h .1)) (omega arith)
       ∙ ap (λ (k : ℕ). Accepted (reading ys k)) n
 
-pub reads-back-1230 : (s : List ℕ) (p : ℕ) (gs : List ℕ) (zs : List ℤ) {q : ℕ} → Raw1230 zs → write1230 s p gs zs .answer ≡ Accepted q
+-- a block that was written is there
+pub block-again-1230 : (s : List ℕ) (p : ℕ) (gs : List ℕ) (zs : List ℤ) {q : ℕ} → OfI16 zs → write1230 s p gs zs .answer ≡ Accepted q
     → block1230 (write1230 s p gs zs .areas) p ≡ Accepted (reading (inOrder1230 (records1230 gs zs)) q)
-reads-back-1230 s p gs zs raw h =
+block-again-1230 s p gs zs raw h =
     let c = call-accepted s p gs zs h in
     let rs = records1230 gs zs in
-    let f = raw-fits gs zs (raw .fits) in
+    let f = raw-fits gs zs raw in
     let w = records-accepted s p rs (c .1) in
     reads-run (λ t. block1230 t p) s p (fields1230 rs) (call-written s p gs zs (c .0) ∙ records-written s p rs w) h (c .0 .few) (w .within) (fields-fit rs f)
     (λ t few stands l. block-reads rs f t p few (λ g. once g 0 [] rs (w .single)) stands l)

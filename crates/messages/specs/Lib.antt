@@ -15,7 +15,8 @@ pub mod MarkedExamples
 pub mod Every
 pub mod InOrder
 pub mod Satellites1059
-pub mod Raw1230
+pub mod I16
+pub mod WrittenBack
 pub mod Columns
 pub mod ReadSteps
 pub mod Put

@@ -1,0 +1,71 @@
+-- For each public function: two answers that its statement allows are equal, and so are the lent areas that two runs leave. Assumes nothing.
+use mathlib.Core.Path.{_≡_, sym, _∙_}
+use mathlib.Core.Bool.{Bool}
+use mathlib.Core.List.{List}
+use Prim.Native.Nat.{ℕ}
+use lib.IntN.{ℤ}
+use lib.Ieee.{Float}
+use Rattle.bits.specs.Outcome.{outcome}
+use Rattle.messages.specs.Signals.{sig, signalOf, numberOf, tableOf}
+use Rattle.messages.specs.SignalOrder.{order}
+use Rattle.messages.specs.Signals1059.{signals1059, isSignal1059}
+use Rattle.messages.specs.Metres.{metres1059, metres1230}
+use Rattle.messages.specs.Read1059.{outcome1059, read1059}
+use Rattle.messages.specs.Read1230.{outcome1230, read1230}
+use Rattle.messages.specs.Write1059.{write1059}
+use Rattle.messages.specs.Write1230.{write1230}
+use Rattle.messages.specs.Answers.{foundSignal, foundNumber, toldOrder, toldRead, toldBlock}
+use Rattle.messages.specs.declared.signals.SignalFound.{SignalFound}
+use Rattle.messages.specs.declared.signals.NumberFound.{NumberFound}
+use Rattle.messages.specs.declared.signals.Order.{Order}
+use Rattle.messages.specs.declared.answer.BlockRead.{BlockRead}
+use Rattle.messages.specs.declared.answer.BlockWritten.{BlockWritten}
+use Rattle.messages.proofs.ToldLaws.{same-signal-found, same-number-found, same-order, only-read1059, only-read1230, only-block}
+
+-- ---- signals
+
+pub only-signal-of : (system number : ℕ) {x y : SignalFound} → foundSignal x ≡ signalOf (tableOf system) number → foundSignal y ≡ signalOf (tableOf system) number → x ≡ y
+only-signal-of system number p q = same-signal-found _ _ (p ∙ sym q)
+
+pub only-number-of : (system band letter : ℕ) {x y : NumberFound} → foundNumber x ≡ numberOf (tableOf system) (sig band letter)
+    → foundNumber y ≡ numberOf (tableOf system) (sig band letter) → x ≡ y
+only-number-of system band letter p q = same-number-found _ _ (p ∙ sym q)
+
+pub only-compare : (system band1 letter1 band2 letter2 : ℕ) {x y : Order} → toldOrder x ≡ order (tableOf system) (sig band1 letter1) (sig band2 letter2)
+    → toldOrder y ≡ order (tableOf system) (sig band1 letter1) (sig band2 letter2) → x ≡ y
+only-compare system band1 letter1 band2 letter2 p q = same-order _ _ (p ∙ sym q)
+
+pub only-signal-of-1059 : (edition number : ℕ) {x y : SignalFound} → foundSignal x ≡ signalOf (signals1059 edition) number
+    → foundSignal y ≡ signalOf (signals1059 edition) number → x ≡ y
+only-signal-of-1059 edition number p q = same-signal-found _ _ (p ∙ sym q)
+
+pub only-is-signal-1059 : (edition number : ℕ) {x y : Bool} → x ≡ isSignal1059 edition number → y ≡ isSignal1059 edition number → x ≡ y
+only-is-signal-1059 edition number p q = p ∙ sym q
+
+-- ---- raw biases
+
+pub only-metres-1059 : (raw : ℤ) {x y : Float} → x ≡ metres1059 raw → y ≡ metres1059 raw → x ≡ y
+only-metres-1059 raw p q = p ∙ sym q
+
+pub only-metres-1230 : (raw : ℤ) {x y : Float} → x ≡ metres1230 raw → y ≡ metres1230 raw → x ≡ y
+only-metres-1230 raw p q = p ∙ sym q
+
+-- ---- bias blocks
+
+pub only-read-1059 : (s : List ℕ) (p : ℕ) (a b : List ℕ) (c : List ℤ) {x y : BlockRead} {sats gs sats′ gs′ : List ℕ} {zs zs′ : List ℤ}
+    → outcome1059 (toldRead x) sats gs zs ≡ read1059 s p a b c → outcome1059 (toldRead y) sats′ gs′ zs′ ≡ read1059 s p a b c
+    → (x ≡ y) × (sats ≡ sats′) × (gs ≡ gs′) × (zs ≡ zs′)
+only-read-1059 s p a b c = only-read1059 (read1059 s p a b c)
+
+pub only-read-1230 : (s : List ℕ) (p : ℕ) (b : List ℕ) (c : List ℤ) {x y : BlockRead} {gs gs′ : List ℕ} {zs zs′ : List ℤ}
+    → outcome1230 (toldRead x) gs zs ≡ read1230 s p b c → outcome1230 (toldRead y) gs′ zs′ ≡ read1230 s p b c
+    → (x ≡ y) × (gs ≡ gs′) × (zs ≡ zs′)
+only-read-1230 s p b c = only-read1230 (read1230 s p b c)
+
+pub only-write-1059 : (e : ℕ) (s : List ℕ) (p : ℕ) (sats gs : List ℕ) (zs : List ℤ) {x y : BlockWritten} {t u : List ℕ}
+    → outcome (toldBlock x) t ≡ write1059 e s p sats gs zs → outcome (toldBlock y) u ≡ write1059 e s p sats gs zs → (x ≡ y) × (t ≡ u)
+only-write-1059 e s p sats gs zs = only-block (write1059 e s p sats gs zs)
+
+pub only-write-1230 : (s : List ℕ) (p : ℕ) (gs : List ℕ) (zs : List ℤ) {x y : BlockWritten} {t u : List ℕ}
+    → outcome (toldBlock x) t ≡ write1230 s p gs zs → outcome (toldBlock y) u ≡ write1230 s p gs zs → (x ≡ y) × (t ≡ u)
+only-write-1230 s p gs zs = only-block (write1230 s p gs zs)
