@@ -28,6 +28,8 @@ pub mod UbxTrip
 pub mod EitherLaws
 pub mod ModeLaws
 pub mod StartLaws
+pub mod SumsLaws
+pub mod UbxSeenLaws
 pub mod UbxExamples
 pub mod CloseLaws
 pub mod StandLaws

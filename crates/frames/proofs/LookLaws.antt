@@ -1,18 +1,19 @@
--- The turns of the search for a frame of RTCM 3: from one D3 to the next. Assumes nothing.
-use mathlib.Core.Path.{_≡_, refl, sym, _∙_, subst₂}
+-- The turns of the search for a frame: from one start byte to the next, over any lawful framing. Assumes nothing.
+use mathlib.Core.Path.{_≡_, refl, sym, ap, _∙_, subst₂}
+use mathlib.Core.Bool.{Bool, false}
 use mathlib.Core.List.{List, _++_}
 use Prim.Native.Nat.{ℕ, _+_, _-_, _≤_, max}
 use native.Mathlib.Omega.{arith}
-use lib.ListN.{length, drop, length-append}
-use Rattle.frames.specs.Framing.{decide}
+use lib.ListN.{length, getD, drop, length-append}
+use Rattle.frames.specs.Scan.{Skip}
+use Rattle.frames.specs.Framing.{Framing, Lawful, decide}
 use Rattle.frames.specs.Feed.{feed}
-use Rattle.frames.specs.Rtcm.{rtcm}
 use Rattle.frames.specs.Steps.{Start, seen, sight}
 use Rattle.frames.specs.declared.scan.Seen.the-variants.{Incomplete, NotValid, Good}
 use Rattle.frames.specs.declared.scan.Sight.the-variants.{More, Frame}
-use Rattle.frames.proofs.RtcmLaws.{rtcm-lawful}
 use Rattle.frames.proofs.SeamLaws.{length-from}
-use Rattle.frames.proofs.SeenLaws.{Says, says, not-d3}
+use Rattle.frames.proofs.SeenLaws.{Says, says, first-is}
+use Rattle.frames.proofs.StartLaws.{Starts}
 use Rattle.frames.proofs.TurnLaws.{Reached, reached-start, turn-short, turn-skip, turn-take, turn-run}
 
 -- bytes taken, as places and as counts
@@ -25,70 +26,74 @@ most-less h e k l = omega arith
 taken-more : (h e j n : ℕ) → h ≤ e → max e (j + n) - h ≡ max (max (e - h) (j - h)) (j + n - h)
 taken-more h e j n l = most-less h e (j + n) l ∙ sym (most-absorbs (e - h) (j - h) (j + n - h) (omega arith))
 
-module _ (h p : List ℕ) where
+module _ {W K : Type 0} (F : Framing W K) (L : Lawful F) (start : ℕ → Bool) (S : Starts F start) (h p : List ℕ) where
+  -- a byte that is no start is decided by itself
+  not-start : (s : List ℕ) (j : ℕ) → start (getD s j 0) ≡ false → (F .need (drop j s) ≡ 1) × ((w : W) × (F .verdict (drop j s) ≡ Skip w))
+  not-start s j e = let f = ap start (first-is s j) ∙ e in (S .alone (drop j s) f, S .skips (drop j s) f)
+
   -- i bytes were skipped, and the bytes up to place e were taken
   pub record Came (i e : ℕ) : Type 0 where
     pub behind : length h ≤ e
-    pub reached : Reached rtcm h p i (e - length h)
+    pub reached : Reached F h p i (e - length h)
 
   pub came-first : Came 0 (length h)
   came-first =
       let z : 0 ≡ length h - length h = omega arith in
-      record { behind = omega arith; reached = subst₂ (λ i t. Reached rtcm h p i t) refl z (reached-start rtcm h p) }
+      record { behind = omega arith; reached = subst₂ (λ i t. Reached F h p i t) refl z (reached-start F h p) }
 
   module _ (i e : ℕ) (c : Came i e) where
     -- all was skipped
-    pub all-skipped : length h + length p ≤ i → More i ≡ sight (feed (decide rtcm) h p)
-    all-skipped l = turn-short rtcm h p rtcm-lawful i (e - length h) (c .reached) (omega (arith, rtcm-lawful .needs (drop i (h ++ p))))
+    pub all-skipped : length h + length p ≤ i → More i ≡ sight (feed (decide F) h p)
+    all-skipped l = turn-short F h p L i (e - length h) (c .reached) (omega (arith, L .needs (drop i (h ++ p))))
 
-    module _ (j : ℕ) (s : Start (h ++ p) i j) where
+    module _ (j : ℕ) (s : Start start (h ++ p) i j) where
       within : j ≤ length h + length p
       within = omega (arith, s .within, length-append h p)
 
-      -- other bytes than D3 are skipped as they come
-      to-start : Reached rtcm h p j (max (e - length h) (j - length h))
+      -- bytes that are no start are skipped as they come
+      to-start : Reached F h p j (max (e - length h) (j - length h))
       to-start =
           let m : i + (j - i) ≡ j = omega (arith, s .from) in
           let t : max (e - length h) (i + (j - i) - length h) ≡ max (e - length h) (j - length h) = rw m in
-          subst₂ (λ x y. Reached rtcm h p x y) m t
-          (turn-run rtcm h p rtcm-lawful i (e - length h) (c .reached) (j - i) (omega (arith, within))
-          (λ k a b. not-d3 (h ++ p) k (s .none k (omega arith) a)))
+          subst₂ (λ x y. Reached F h p x y) m t
+          (turn-run F h p L i (e - length h) (c .reached) (j - i) (omega (arith, within))
+          (λ k a b. not-start (h ++ p) k (s .none k (omega arith) a)))
 
-      -- no D3 is left
-      pub no-start : length h + length p ≤ j → More j ≡ sight (feed (decide rtcm) h p)
-      no-start l = turn-short rtcm h p rtcm-lawful j (max (e - length h) (j - length h)) to-start (omega (arith, rtcm-lawful .needs (drop j (h ++ p))))
+      -- no start is left
+      pub no-start : length h + length p ≤ j → More j ≡ sight (feed (decide F) h p)
+      no-start l = turn-short F h p L j (max (e - length h) (j - length h)) to-start (omega (arith, L .needs (drop j (h ++ p))))
 
       -- what is left waits
-      pub waits : Incomplete ≡ seen (drop j (h ++ p)) → More j ≡ sight (feed (decide rtcm) h p)
+      pub waits : Incomplete ≡ seen F (drop j (h ++ p)) → More j ≡ sight (feed (decide F) h p)
       waits q =
-          let w : Says (drop j (h ++ p)) Incomplete = says (drop j (h ++ p)) Incomplete q in
-          turn-short rtcm h p rtcm-lawful j (max (e - length h) (j - length h)) to-start (omega (arith, length-from h p j))
+          let w : Says F (drop j (h ++ p)) Incomplete = says F L (drop j (h ++ p)) Incomplete q in
+          turn-short F h p L j (max (e - length h) (j - length h)) to-start (omega (arith, length-from h p j))
 
       module _ (n : ℕ) where
-        pub bad-fits : NotValid n ≡ seen (drop j (h ++ p)) → j + n ≤ length h + length p
+        pub bad-fits : NotValid n ≡ seen F (drop j (h ++ p)) → j + n ≤ length h + length p
         bad-fits q =
-            let w : Says (drop j (h ++ p)) (NotValid n) = says (drop j (h ++ p)) (NotValid n) q in
+            let w : Says F (drop j (h ++ p)) (NotValid n) = says F L (drop j (h ++ p)) (NotValid n) q in
             omega (arith, length-from h p j, within, w .0, w .1)
 
-        pub good-fits : Good n ≡ seen (drop j (h ++ p)) → j + n ≤ length h + length p
+        pub good-fits : Good n ≡ seen F (drop j (h ++ p)) → j + n ≤ length h + length p
         good-fits q =
-            let w : Says (drop j (h ++ p)) (Good n) = says (drop j (h ++ p)) (Good n) q in
+            let w : Says F (drop j (h ++ p)) (Good n) = says F L (drop j (h ++ p)) (Good n) q in
             omega (arith, length-from h p j, within, w .0, w .1)
 
-        -- the D3 is skipped
-        pub passed : NotValid n ≡ seen (drop j (h ++ p)) → Came (j + 1) (max e (j + n))
+        -- the start byte is skipped
+        pub passed : NotValid n ≡ seen F (drop j (h ++ p)) → Came (j + 1) (max e (j + n))
         passed q =
-            let w : Says (drop j (h ++ p)) (NotValid n) = says (drop j (h ++ p)) (NotValid n) q in
+            let w : Says F (drop j (h ++ p)) (NotValid n) = says F L (drop j (h ++ p)) (NotValid n) q in
             record {
               behind = omega (arith, c .behind);
               reached =
-                  turn-skip rtcm h p rtcm-lawful j (max (e - length h) (j - length h)) to-start n (max e (j + n) - length h) (w .2)
+                  turn-skip F h p L j (max (e - length h) (j - length h)) to-start n (max e (j + n) - length h) (w .2)
                   (w .0, bad-fits q, taken-more (length h) e j n (c .behind)) (w .3);
             }
 
         -- the frame is handed out
-        pub found : Good n ≡ seen (drop j (h ++ p)) → Frame j n (max e (j + n) - length h) ≡ sight (feed (decide rtcm) h p)
+        pub found : Good n ≡ seen F (drop j (h ++ p)) → Frame j n (max e (j + n) - length h) ≡ sight (feed (decide F) h p)
         found q =
-            let w : Says (drop j (h ++ p)) (Good n) = says (drop j (h ++ p)) (Good n) q in
-            turn-take rtcm h p rtcm-lawful j (max (e - length h) (j - length h)) to-start n (max e (j + n) - length h) (w .2)
+            let w : Says F (drop j (h ++ p)) (Good n) = says F L (drop j (h ++ p)) (Good n) q in
+            turn-take F h p L j (max (e - length h) (j - length h)) to-start n (max e (j + n) - length h) (w .2)
             (w .0, good-fits q, taken-more (length h) e j n (c .behind)) (w .3)

@@ -1,4 +1,4 @@
--- What the framing of RTCM 3 decides at a place, by what the code has in hand there. Assumes nothing.
+-- What a framing decides at a place: in what form laws of a call take it, and of RTCM 3 by what the code has in hand there. Assumes nothing.
 use mathlib.Core.Path.{_≡_, refl, sym, ap, _∙_, subst}
 use mathlib.Core.Bool.{Bool, true, false, cond}
 use mathlib.Core.List.{List, _++_}
@@ -14,69 +14,69 @@ use Rattle.bits.specs.Field.{field}
 use Rattle.bits.specs.Crc.{crc}
 use Rattle.bits.proofs.PartLaws.{field-drop}
 use Rattle.frames.specs.Scan.{Decision, Skip, Take, Wait}
+use Rattle.frames.specs.Framing.{Framing, Lawful}
 use Rattle.frames.specs.Frame.{dataLength, ownSum, sentSum}
-use Rattle.frames.specs.Rtcm.{Why, NotD3, Kind, rtcm}
+use Rattle.frames.specs.Rtcm.{rtcm}
 use Rattle.frames.specs.Steps.{Start, seen, seenBy}
 use Rattle.frames.specs.declared.scan.Seen.{Seen}
 use Rattle.frames.specs.declared.scan.Seen.the-variants.{Incomplete, NotValid, Good}
 use Rattle.frames.proofs.FrameLaws.{length-at, three-field}
-use Rattle.frames.proofs.RtcmLaws.{rtcm-lawful}
 use Rattle.frames.proofs.SeamLaws.{at-left, at-right}
 
--- ---- the first D3 of two lists, one behind the other
+-- ---- the first start byte of two lists, one behind the other
 
-module _ (h p : List ℕ) (i j : ℕ) where
+module _ (start : ℕ → Bool) (h p : List ℕ) (i j : ℕ) where
   -- it stands in the second, from a place there on
-  pub start-right : length h ≤ i → Start p (i - length h) j → Start (h ++ p) i (length h + j)
+  pub start-right : length h ≤ i → Start start p (i - length h) j → Start start (h ++ p) i (length h + j)
   start-right l s =
       record {
         from = omega (arith, s .from);
         within = rw length-append (omega (arith, s .within));
-        none = λ k a b e. s .none (k - length h) (omega arith) (omega arith) (at-right h p k (omega arith) ∙ e);
+        none = λ k a b. ap start (sym (at-right h p k (omega arith))) ∙ s .none (k - length h) (omega arith) (omega arith);
         there = λ a.
             let m : length h + j - length h ≡ j = omega arith in
-            sym (at-right h p (length h + j) (omega arith)) ∙ ap (λ k. getD p k 0) m ∙ s .there (omega (arith, length-append h p));
+            ap start (sym (at-right h p (length h + j) (omega arith)) ∙ ap (λ k. getD p k 0) m) ∙ s .there (omega (arith, length-append h p));
       }
 
   -- it stands in the first
-  pub start-left : j < length h → Start h i j → Start (h ++ p) i j
+  pub start-left : j < length h → Start start h i j → Start start (h ++ p) i j
   start-left l s =
       record {
         from = s .from;
         within = rw length-append (omega arith);
-        none = λ k a b e. s .none k a b (at-left h p k (omega arith) ∙ e);
-        there = λ a. sym (at-left h p j l) ∙ s .there l;
+        none = λ k a b. ap start (sym (at-left h p k (omega arith))) ∙ s .none k a b;
+        there = λ a. ap start (sym (at-left h p j l)) ∙ s .there l;
       }
 
 -- the first has none from place i on
-pub start-both : (h p : List ℕ) (i j k : ℕ) → length h ≤ j → Start h i j → Start p 0 k → Start (h ++ p) i (length h + k)
-start-both h p i j k l s t =
+pub start-both : (start : ℕ → Bool) (h p : List ℕ) (i j k : ℕ) → length h ≤ j → Start start h i j → Start start p 0 k → Start start (h ++ p) i (length h + k)
+start-both start h p i j k l s t =
     let z : 0 ≡ length h - length h = omega arith in
-    let r = start-right h p (length h) k (omega arith) (subst (λ n. Start p n k) z t) in
+    let r = start-right start h p (length h) k (omega arith) (subst (λ n. Start start p n k) z t) in
     record {
       from = omega (arith, s .from, s .within);
       within = r .within;
-      none = λ m a b e. go m a b e (decLt m (length h));
+      none = λ m a b. go m a b (decLt m (length h));
       there = r .there;
     }
   where
-    go : (m : ℕ) → m < length h + k → i ≤ m → getD (h ++ p) m 0 ≡ 0xD3 → Dec (m < length h) → ⊥
-    go m a b e (yes q) = s .none m (omega arith) b (at-left h p m q ∙ e)
-    go m a b e (no q) = t .none (m - length h) (omega arith) (omega arith) (at-right h p m (omega arith) ∙ e)
+    go : (m : ℕ) → m < length h + k → i ≤ m → Dec (m < length h) → start (getD (h ++ p) m 0) ≡ false
+    go m a b (yes q) = ap start (sym (at-left h p m q)) ∙ s .none m (omega arith) b
+    go m a b (no q) = ap start (sym (at-right h p m (omega arith))) ∙ t .none (m - length h) (omega arith) (omega arith)
 
--- ---- what is seen
+-- ---- what is seen of RTCM
 
 module _ (t : List ℕ) (first : getD t 0 0 ≡ 0xD3) where
-  cut : length t < dataLength t + 6 → Incomplete ≡ seen t
+  cut : length t < dataLength t + 6 → Incomplete ≡ seen rtcm t
   unfolding seen rtcm
   cut l = rw (eq-eqb (getD t 0 0) 0xD3 first, lt-leb (dataLength t + 6) (length t) l)
 
   module _ (l : dataLength t + 6 ≤ length t) where
-    good : ownSum t ≡ sentSum t → Good (dataLength t + 6) ≡ seen t
+    good : ownSum t ≡ sentSum t → Good (dataLength t + 6) ≡ seen rtcm t
     unfolding seen rtcm
     good q = rw (eq-eqb (getD t 0 0) 0xD3 first, le-leb (dataLength t + 6) (length t) l, eq-eqb (ownSum t) (sentSum t) q)
 
-    bad : (ownSum t ≡ sentSum t → ⊥) → NotValid (dataLength t + 6) ≡ seen t
+    bad : (ownSum t ≡ sentSum t → ⊥) → NotValid (dataLength t + 6) ≡ seen rtcm t
     unfolding seen rtcm
     bad q = rw (eq-eqb (getD t 0 0) 0xD3 first, le-leb (dataLength t + 6) (length t) l, ne-eqb (ownSum t) (sentSum t) q)
 
@@ -97,11 +97,11 @@ module _ (s : List ℕ) (i : ℕ) (e : getD s i 0 ≡ 0xD3) where
   start : getD (drop i s) 0 0 ≡ 0xD3
   start = first-is s i ∙ e
 
-  pub seen-few : length s < i + 6 → Incomplete ≡ seen (drop i s)
+  pub seen-few : length s < i + 6 → Incomplete ≡ seen rtcm (drop i s)
   seen-few l = cut (drop i s) start (rw length-drop (omega arith))
 
   module _ (n : ℕ) (f : n ≡ dataLength (drop i s)) where
-    pub seen-cut : length s < i + (n + 6) → Incomplete ≡ seen (drop i s)
+    pub seen-cut : length s < i + (n + 6) → Incomplete ≡ seen rtcm (drop i s)
     seen-cut l = cut (drop i s) start (rw (length-drop, ← f) (omega arith))
 
     module _ (own sent : ℕ) (l : i + (n + 6) ≤ length s) (eo : own ≡ crc (take (n + 3) (drop i s))) (es : sent ≡ field s ((i + n + 3) * 8) 24) where
@@ -116,31 +116,28 @@ module _ (s : List ℕ) (i : ℕ) (e : getD s i 0 ≡ 0xD3) where
       fits : dataLength (drop i s) + 6 ≤ length (drop i s)
       fits = rw (length-drop, ← f) (omega arith)
 
-      pub seen-good : own ≡ sent → Good (n + 6) ≡ seen (drop i s)
+      pub seen-good : own ≡ sent → Good (n + 6) ≡ seen rtcm (drop i s)
       seen-good q = ap (λ k. Good (k + 6)) f ∙ good (drop i s) start fits (own-is ∙ q ∙ sym sent-is)
 
-      pub seen-bad : (own ≡ sent → ⊥) → NotValid (n + 6) ≡ seen (drop i s)
+      pub seen-bad : (own ≡ sent → ⊥) → NotValid (n + 6) ≡ seen rtcm (drop i s)
       seen-bad q = ap (λ k. NotValid (k + 6)) f ∙ bad (drop i s) start fits (λ r. q (sym own-is ∙ r ∙ sent-is))
 
--- ---- what it says
+-- ---- what it says, of any framing
 
--- as the laws of a call take it
-abbrev pub Says : List ℕ → Seen → Type 0
-Says s Incomplete = length s < rtcm .need s
-Says s (NotValid n) = (n ≡ rtcm .need s) × (rtcm .need s ≤ length s) × (w : Why) × (rtcm .verdict s ≡ Skip w)
-Says s (Good n) = (n ≡ rtcm .need s) × (rtcm .need s ≤ length s) × (k : Kind) × (rtcm .verdict s ≡ Take k n)
+module _ {W K : Type 0} (F : Framing W K) where
+  -- as the laws of a call take it
+  abbrev pub Says : List ℕ → Seen → Type 0
+  Says s Incomplete = length s < F .need s
+  Says s (NotValid n) = (n ≡ F .need s) × (F .need s ≤ length s) × (w : W) × (F .verdict s ≡ Skip w)
+  Says s (Good n) = (n ≡ F .need s) × (F .need s ≤ length s) × (k : K) × (F .verdict s ≡ Take k n)
 
-says-by : (s : List ℕ) (b : Bool) → leb (rtcm .need s) (length s) ≡ b → (q : Decision Why Kind) → rtcm .verdict s ≡ q → Says s (seenBy (cond b q Wait) (rtcm .need s))
-says-by s true e (Skip w) f = (refl, leb-true _ _ e, w, f)
-says-by s true e (Take k n) f = (rtcm-lawful .taken s k n f, leb-true _ _ e, k, f)
-says-by s true e Wait f = absurd (rtcm-lawful .decided s f)
-says-by s false e q f = leb-false _ _ e
+  module _ (L : Lawful F) where
+    says-by : (s : List ℕ) (b : Bool) → leb (F .need s) (length s) ≡ b → (q : Decision W K) → F .verdict s ≡ q → Says s (seenBy (cond b q Wait) (F .need s))
+    says-by s true e (Skip w) f = (refl, leb-true _ _ e, w, f)
+    says-by s true e (Take k n) f = (L .taken s k n f, leb-true _ _ e, k, f)
+    says-by s true e Wait f = absurd (L .decided s f)
+    says-by s false e q f = leb-false _ _ e
 
-pub says : (s : List ℕ) (r : Seen) → r ≡ seen s → Says s r
-unfolding seen
-says s r e = subst (Says s) (sym e) (says-by s (leb (rtcm .need s) (length s)) refl (rtcm .verdict s) refl)
-
--- a byte that is not D3 is decided by itself
-pub not-d3 : (s : List ℕ) (j : ℕ) → (getD s j 0 ≡ 0xD3 → ⊥) → (rtcm .need (drop j s) ≡ 1) × ((w : Why) × (rtcm .verdict (drop j s) ≡ Skip w))
-unfolding rtcm
-not-d3 s j n = (rw (first-is s j, ne-eqb _ _ n), (NotD3, rw (first-is s j, ne-eqb _ _ n)))
+    pub says : (s : List ℕ) (r : Seen) → r ≡ seen F s → Says s r
+    unfolding seen
+    says s r e = subst (Says s) (sym e) (says-by s (leb (F .need s) (length s)) refl (F .verdict s) refl)

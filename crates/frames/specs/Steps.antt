@@ -1,37 +1,48 @@
 -- What private functions of the code compute. No promise to a caller rests on this file. Assumes nothing.
 use mathlib.Core.Path.{_≡_}
+use mathlib.Core.Bool.{Bool, true, false, cond, _||_}
 use mathlib.Core.List.{List, _++_}
 use Prim.Native.Nat.{ℕ, _+_, _-_, _≤_, _<_}
 use lib.ListN.{length, getD, take, drop}
+use lib.Dec.{eqb}
 use Rattle.bits.specs.Told.{Accepted}
 use Rattle.bits.specs.Onto.{onto}
 use Rattle.frames.specs.Scan.{Decision, Skip, Take, Wait}
-use Rattle.frames.specs.Framing.{decide}
+use Rattle.frames.specs.Framing.{Framing, decide}
 use Rattle.frames.specs.Feed as fed
 use Rattle.frames.specs.Call as call
 use Rattle.frames.specs.Call.{Outcome, outcome}
-use Rattle.frames.specs.Rtcm.{Why, Kind, rtcm}
 use Rattle.frames.specs.declared.scan.Seen.{Seen}
 use Rattle.frames.specs.declared.scan.Seen.the-variants.{Incomplete, NotValid, Good}
 use Rattle.frames.specs.declared.scan.Sight.{Sight}
 use Rattle.frames.specs.declared.scan.Sight.the-variants.{More, Frame}
 
--- j is the first place of a D3 in s from place i on, or the end
-pub record Start (s : List ℕ) (i j : ℕ) : Type 0 where
+-- the byte that starts a frame of RTCM; the bytes that start one of either kind; those of a mode
+abbrev pub startsRtcm : ℕ → Bool
+startsRtcm x = eqb x 0xD3
+
+abbrev pub startsEither : ℕ → Bool
+startsEither x = eqb x 0xB5 || eqb x 0xD3
+
+abbrev pub startsIn : ℕ → ℕ → Bool
+startsIn mode x = cond (eqb mode 0) (startsRtcm x) (startsEither x)
+
+-- j is the first place of s from place i on whose byte is a start, or the end
+pub record Start (start : ℕ → Bool) (s : List ℕ) (i j : ℕ) : Type 0 where
   pub from : i ≤ j
   pub within : j ≤ length s
-  pub none : (k : ℕ) → k < j → i ≤ k → getD s k 0 ≡ 0xD3 → ⊥
-  pub there : j < length s → getD s j 0 ≡ 0xD3
+  pub none : (k : ℕ) → k < j → i ≤ k → start (getD s k 0) ≡ false
+  pub there : j < length s → start (getD s j 0) ≡ true
 
 -- a decision, and the n bytes that it was made by
-abbrev pub seenBy : Decision Why Kind → ℕ → Seen
+abbrev pub seenBy : {W K : Type 0} → Decision W K → ℕ → Seen
 seenBy (Skip w) n = NotValid n
 seenBy (Take k m) n = Good m
 seenBy Wait n = Incomplete
 
 -- what is decided at the front of s
-unfoldable pub seen : List ℕ → Seen
-seen s = seenBy (decide rtcm s) (rtcm .need s)
+unfoldable pub seen : {W K : Type 0} → Framing W K → List ℕ → Seen
+seen F s = seenBy (decide F s) (F .need s)
 
 -- the numbers of what a call gives: bytes skipped; or bytes skipped, the frame's length, and bytes taken
 abbrev pub sight : {W K : Type 0} → fed.Fed W K → Sight

@@ -2,6 +2,7 @@
 //
 // The search looks at bytes that are held and a piece behind them as one stream, which is nowhere copied together.
 ghost use mathlib.Core.Path.{_≡_};
+ghost use mathlib.Core.Bool.{true};
 ghost use mathlib.Core.List.{_++_};
 ghost use Prim.Native.Nat.{_+_, _*_, _^_, _≤_, _<_, min, max};
 ghost use lib.ListN.{length, getD, take, drop};
@@ -10,10 +11,12 @@ ghost use Rattle.bits.specs.Crc.{crc};
 ghost use Rattle.frames.specs.Framing.{decide};
 ghost use Rattle.frames.specs.Feed.{feed};
 ghost use Rattle.frames.specs.Rtcm.{rtcm};
+ghost use Rattle.frames.specs.Modes.{framingOf};
 ghost use Rattle.frames.specs.Walk.{nextFrom};
 ghost use Rattle.frames.specs.Answers.{toldNext};
-ghost use Rattle.frames.specs.Steps.{Start, seen, sight};
+ghost use Rattle.frames.specs.Steps.{startsRtcm, startsEither, startsIn, Start, seen, sight};
 use crate::frame;
+use crate::ubx;
 use bits::crc;
 
 // What the scan comes to next: a frame, with its place and its length; or the place from which on the bytes are held.
@@ -30,7 +33,7 @@ pub fn next_frame(bytes: &[u8], from: usize) -> Next
     if all <= from {
         return Next::Held(all);
     }
-    match look(&bytes[0..0], &bytes[from..all]) {
+    match look(&bytes[0..0], &bytes[from..all], 0) {
         Sight::More(i) => Next::Held(from + i),
         Sight::Frame(i, length, _) => Next::Frame {
             place: from + i,
@@ -46,21 +49,21 @@ pub(crate) enum Sight {
     Frame(usize, usize, usize),
 }
 
-// The first frame of the held bytes with the piece behind them.
-pub(crate) fn look(held: &[u8], piece: &[u8]) -> Sight
+// The first frame of the held bytes with the piece behind them: in mode 0 of RTCM, else of either kind.
+pub(crate) fn look(held: &[u8], piece: &[u8], mode: u32) -> Sight
     requires { ⌜ length (now held) + length (now piece) < 2 ^ 64 ⌝ }
-    ensures { λ r. ⌜ r ≡ sight (feed (decide rtcm) (now (held .entry)) (now (piece .entry))) ⌝ }
+    ensures { λ r. ⌜ r ≡ sight (feed (decide (framingOf mode)) (now (held .entry)) (now (piece .entry))) ⌝ }
 {
     let h = held.len();
     let all = h + piece.len();
     let mut i: usize = 0;
     let mut end = h;
     while i < all {
-        let j = next_start(held, piece, i);
+        let j = next_start(held, piece, i, mode);
         if all <= j {
             return Sight::More(j);
         }
-        match seen_at(held, piece, j) {
+        match seen_at(held, piece, j, mode) {
             Seen::Incomplete => {
                 return Sight::More(j);
             }
@@ -76,26 +79,37 @@ pub(crate) fn look(held: &[u8], piece: &[u8]) -> Sight
     Sight::More(i)
 }
 
-// The place of the first D3 from place i on, or the end.
-fn next_start(held: &[u8], piece: &[u8], i: usize) -> usize
+// The place of the first byte from place i on that starts a frame in the mode, or the end.
+fn next_start(held: &[u8], piece: &[u8], i: usize, mode: u32) -> usize
     requires { ⌜ (i ≤ length (now held) + length (now piece)) × (length (now held) + length (now piece) < 2 ^ 64) ⌝ }
-    ensures { λ r. ⌜ Start (now (held .entry) ++ now (piece .entry)) i r ⌝ }
+    ensures { λ r. ⌜ Start (startsIn mode) (now (held .entry) ++ now (piece .entry)) i r ⌝ }
 {
     let h = held.len();
     if h <= i {
-        return h + next_d3(piece, i - h);
+        return h + next_in(piece, i - h, mode);
     }
-    let j = next_d3(held, i);
+    let j = next_in(held, i, mode);
     if j < h {
         return j;
     }
-    h + next_d3(piece, 0)
+    h + next_in(piece, 0, mode)
+}
+
+// The place of the first byte of a part from a place on that starts a frame in the mode, or its end.
+fn next_in(part: &[u8], from: usize, mode: u32) -> usize
+    requires { ⌜ from ≤ length (now part) ⌝ }
+    ensures { λ r. ⌜ Start (startsIn mode) (now (part .entry)) from r ⌝ }
+{
+    if mode == 0 {
+        return next_d3(part, from);
+    }
+    next_either(part, from)
 }
 
 // The place of the first D3 of a part from a place on, or its end.
 fn next_d3(part: &[u8], from: usize) -> usize
     requires { ⌜ from ≤ length (now part) ⌝ }
-    ensures { λ r. ⌜ Start (now (part .entry)) from r ⌝ }
+    ensures { λ r. ⌜ Start startsRtcm (now (part .entry)) from r ⌝ }
 {
     let mut i = from;
     while i < part.len() {
@@ -107,17 +121,49 @@ fn next_d3(part: &[u8], from: usize) -> usize
     i
 }
 
-// What the frame check says of a D3: incomplete; or not valid, or good, by so many bytes.
-enum Seen {
+// The place of the first D3 or B5 of a part from a place on, or its end.
+fn next_either(part: &[u8], from: usize) -> usize
+    requires { ⌜ from ≤ length (now part) ⌝ }
+    ensures { λ r. ⌜ Start startsEither (now (part .entry)) from r ⌝ }
+{
+    let mut i = from;
+    while i < part.len() {
+        if part[i] == 0xB5 {
+            return i;
+        }
+        if part[i] == 0xD3 {
+            return i;
+        }
+        i += 1;
+    }
+    i
+}
+
+// What a check says of a start byte: incomplete; or not valid, or good, by so many bytes.
+pub(crate) enum Seen {
     Incomplete,
     NotValid(usize),
     Good(usize),
 }
 
+// The check of the start byte at place i: in mode 0 that of RTCM, else that of its kind.
+fn seen_at(held: &[u8], piece: &[u8], i: usize, mode: u32) -> Seen
+    requires { ⌜ (i < length (now held) + length (now piece)) × (length (now held) + length (now piece) < 2 ^ 64) × (startsIn mode (getD (now held ++ now piece) i 0) ≡ true) ⌝ }
+    ensures { λ r. ⌜ r ≡ seen (framingOf mode) (drop i (now (held .entry) ++ now (piece .entry))) ⌝ }
+{
+    if mode == 0 {
+        return rtcm_at(held, piece, i);
+    }
+    if byte_at(held, piece, i) == 0xB5 {
+        return ubx::ubx_at(held, piece, i);
+    }
+    rtcm_at(held, piece, i)
+}
+
 // The frame check of the D3 at place i. No sum is taken before all bytes that the length asks for are there.
-fn seen_at(held: &[u8], piece: &[u8], i: usize) -> Seen
+fn rtcm_at(held: &[u8], piece: &[u8], i: usize) -> Seen
     requires { ⌜ (i < length (now held) + length (now piece)) × (length (now held) + length (now piece) < 2 ^ 64) × (getD (now held ++ now piece) i 0 ≡ 0xD3) ⌝ }
-    ensures { λ r. ⌜ r ≡ seen (drop i (now (held .entry) ++ now (piece .entry))) ⌝ }
+    ensures { λ r. ⌜ r ≡ seen rtcm (drop i (now (held .entry) ++ now (piece .entry))) ⌝ }
 {
     let left = held.len() + piece.len() - i;
     if left < 6 {
@@ -160,7 +206,7 @@ fn three_at(held: &[u8], piece: &[u8], i: usize) -> u32
 }
 
 // The byte at place i.
-fn byte_at(held: &[u8], piece: &[u8], i: usize) -> u32
+pub(crate) fn byte_at(held: &[u8], piece: &[u8], i: usize) -> u32
     requires { ⌜ i < length (now held) + length (now piece) ⌝ }
     ensures { λ r. ⌜ (r ≡ getD (now (held .entry) ++ now (piece .entry)) i 0) × (r < 256) ⌝ }
 {

@@ -55,7 +55,7 @@ pub fn feed(held: &mut [u8], count: usize, piece: &[u8], out: &mut [u8]) -> Fed
     if out.len() < 1029 {
         return Fed::Room(1029);
     }
-    let found = scan::look(&held[0..count], piece);
+    let found = scan::look(&held[0..count], piece, 0);
     carry_out(held, count, piece, out, found)
 }
 

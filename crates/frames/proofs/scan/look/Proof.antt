@@ -5,27 +5,31 @@ use native.Mathlib.Omega.{arith}
 use lib.ListN.{length, length-append}
 use borrow.Author.Needs.{needs}
 use Rattle.frames.specs.declared.scan.Sight.the-variants.{Frame}
+use Rattle.frames.specs.Modes.{framingOf}
+use Rattle.frames.specs.Steps.{startsIn}
+use Rattle.frames.proofs.ModeLaws.{lawful}
+use Rattle.frames.proofs.StartLaws.{mode-starts}
 use Rattle.frames.proofs.LookLaws.{Came, came-first, all-skipped, no-start, waits, bad-fits, good-fits, passed, found}
 use Rattle.frames.proofs.scan.look.Statement.{statement}
 use Rattle.frames.proofs.scan.look.Tie as tie
 
 abbrev Inv-loop : tie.InvT-loop
-Inv-loop held piece h all i₀ end₀ i end = Came held piece i end
+Inv-loop held piece mode h all i₀ end₀ i end = Came (framingOf mode) (lawful mode) (startsIn mode) (mode-starts mode) held piece i end
 
 abbrev μ-loop : tie.MeasureT-loop
-μ-loop held piece h all i₀ end₀ i end = length held + length piece - i
+μ-loop held piece mode h all i₀ end₀ i end = length held + length piece - i
 
 add-all : tie.Need-add-all Inv-loop μ-loop
 add-all c = search needs
 
 loop-holds : tie.Need-loop-holds Inv-loop μ-loop
-loop-holds c = came-first _ _
+loop-holds c = came-first _ _ _ _ _ _
 
 next-start-requires : tie.Need-next-start-requires Inv-loop μ-loop
 next-start-requires c κs = (omega arith, omega arith)
 
 returns : tie.Need-returns Inv-loop μ-loop
-returns c = no-start _ _ _ _ (c .before .before .before .loop .inv) _ (c .before .next-start .ensures) (omega arith)
+returns c = no-start _ _ _ _ _ _ _ _ (c .before .before .before .loop .inv) _ (c .before .next-start .ensures) (omega arith)
 
 seen-at-requires : tie.Need-seen-at-requires Inv-loop μ-loop
 seen-at-requires c κs =
@@ -36,7 +40,7 @@ enum-told : tie.Need-enum-told Inv-loop μ-loop
 enum-told c = search needs
 
 returns-2 : tie.Need-returns-2 Inv-loop μ-loop
-returns-2 c = waits _ _ _ _ (c .before .before .before .before .before .before .loop .inv) _ (c .before .before .before .before .next-start .ensures) (sym (c .enum-told .given .1) ∙ c .before .before .seen-at .ensures)
+returns-2 c = waits _ _ _ _ _ _ _ _ (c .before .before .before .before .before .before .loop .inv) _ (c .before .before .before .before .next-start .ensures) (sym (c .enum-told .given .1) ∙ c .before .before .seen-at .ensures)
 
 enum-known-n : tie.Need-enum-known-n Inv-loop μ-loop
 enum-known-n c = search needs
@@ -45,20 +49,20 @@ add-most : tie.Need-add-most Inv-loop μ-loop
 add-most c =
     let l = c .before .before .before .before .before .before .before .loop in
     let j = c .before .before .before .before .before .next-start in
-    record { fits = omega (arith, good-fits _ _ _ _ (l .inv) _ (j .ensures) _ (sym (c .before .n .given .1) ∙ c .before .before .before .seen-at .ensures)) }
+    record { fits = omega (arith, good-fits _ _ _ _ _ _ _ _ (l .inv) _ (j .ensures) _ (sym (c .before .n .given .1) ∙ c .before .before .before .seen-at .ensures)) }
 
 most-requires : tie.Need-most-requires Inv-loop μ-loop
 most-requires c κs = search needs
 
-sub-t15 : tie.Need-sub-t15 Inv-loop μ-loop
-sub-t15 c = omega (arith, c .before .before .before .before .before .before .before .before .loop .inv .behind, c .most .ensures)
+sub-t16 : tie.Need-sub-t16 Inv-loop μ-loop
+sub-t16 c = omega (arith, c .before .before .before .before .before .before .before .before .loop .inv .behind, c .most .ensures)
 
 returns-3 : tie.Need-returns-3 Inv-loop μ-loop
 returns-3 c =
     let a = c .before .before .before .before .before .before .before .before .before .before .before .args in
     let l = c .before .before .before .before .before .before .before .before .loop in
     let j = c .before .before .before .before .before .before .next-start in
-    ap (λ m. Frame (j .result) (c .before .before .n .given .0 .0) (m - length (a .held .now))) (c .most .ensures) ∙ found _ _ _ _ (l .inv) _ (j .ensures) _ (sym (c .before .before .n .given .1) ∙ c .before .before .before .before .seen-at .ensures)
+    ap (λ m. Frame (j .result) (c .before .before .n .given .0 .0) (m - length (a .held .now))) (c .most .ensures) ∙ found _ _ _ _ _ _ _ _ (l .inv) _ (j .ensures) _ (sym (c .before .before .n .given .1) ∙ c .before .before .before .before .seen-at .ensures)
 
 enum-known-n-2 : tie.Need-enum-known-n-2 Inv-loop μ-loop
 enum-known-n-2 c = search needs
@@ -67,7 +71,7 @@ add-most-2 : tie.Need-add-most-2 Inv-loop μ-loop
 add-most-2 c =
     let l = c .before .before .before .before .before .before .before .loop in
     let j = c .before .before .before .before .before .next-start in
-    record { fits = omega (arith, bad-fits _ _ _ _ (l .inv) _ (j .ensures) _ (sym (c .before .n2 .given .1) ∙ c .before .before .before .seen-at .ensures)) }
+    record { fits = omega (arith, bad-fits _ _ _ _ _ _ _ _ (l .inv) _ (j .ensures) _ (sym (c .before .n2 .given .1) ∙ c .before .before .before .seen-at .ensures)) }
 
 most-requires-2 : tie.Need-most-requires-2 Inv-loop μ-loop
 most-requires-2 c κs = search needs
@@ -82,10 +86,10 @@ loop-again : tie.Need-loop-again Inv-loop μ-loop
 loop-again c =
     let l = c .before .before .before .before .before .before .before .before .loop in
     let j = c .before .before .before .before .before .before .next-start in
-    subst (Came _ _ _) (sym (c .most2 .ensures)) (passed _ _ _ _ (l .inv) _ (j .ensures) _ (sym (c .before .before .n2 .given .1) ∙ c .before .before .before .before .seen-at .ensures))
+    subst (Came _ _ _ _ _ _ _) (sym (c .most2 .ensures)) (passed _ _ _ _ _ _ _ _ (l .inv) _ (j .ensures) _ (sym (c .before .before .n2 .given .1) ∙ c .before .before .before .before .seen-at .ensures))
 
 returns-4 : tie.Need-returns-4 Inv-loop μ-loop
-returns-4 c = all-skipped _ _ _ _ (c .before .loop .inv) (omega arith)
+returns-4 c = all-skipped _ _ _ _ _ _ _ _ (c .before .loop .inv) (omega arith)
 
 pub look-spec : {M : Type 1} → statement M
 look-spec =
@@ -103,7 +107,7 @@ look-spec =
     enum-known-n
     add-most
     most-requires
-    sub-t15
+    sub-t16
     returns-3
     enum-known-n-2
     add-most-2

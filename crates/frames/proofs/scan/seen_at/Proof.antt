@@ -1,88 +1,47 @@
--- Each return is a case of what is decided at a D3. Assumes nothing.
+-- The mode, and in mode 1 the start byte, say which check decides. Assumes nothing.
+use mathlib.Core.Path.{sym, _∙_}
+use mathlib.Core.List.{_++_}
 use native.Mathlib.Omega.{arith}
-use lib.ListN.{length-append}
+use Rattle.frames.proofs.SeenLaws.{first-is}
+use Rattle.frames.proofs.UbxSeenLaws.{only-rtcm, only-d3, at-b5, at-d3, else-d3}
 use borrow.Author.Needs.{needs}
-use Rattle.frames.proofs.SeenLaws.{length-here, seen-few, seen-cut, seen-good, seen-bad}
 use Rattle.frames.proofs.scan.seen_at.Statement.{statement}
 use Rattle.frames.proofs.scan.seen_at.Tie as tie
 
-add-left : tie.Need-add-left
-add-left c = search needs
-
-sub-left : tie.Need-sub-left
-sub-left c = search needs
+rtcm-at-requires : tie.Need-rtcm-at-requires
+rtcm-at-requires c κs = (omega arith, omega arith, only-d3 _ _ (c .if1 .taken) (c .before .before .before .pre .2))
 
 returns : tie.Need-returns
-returns c =
-    let a = c .before .before .before .args in
-    let l = length-append (a .held .now) (a .piece .now) in
-    seen-few _ (a .i) (c .before .before .before .pre .2) (omega (arith, l))
+returns c = c .rtcm-at .ensures ∙ only-rtcm _ _ (c .before .if1 .taken)
 
-three-at-requires : tie.Need-three-at-requires
-three-at-requires c κs = search needs
+byte-at-requires : tie.Need-byte-at-requires
+byte-at-requires c κs = search needs
 
-cast-n : tie.Need-cast-n
-cast-n c = search needs
-
-add-if2 : tie.Need-add-if2
-add-if2 c = search needs
+ubx-at-requires : tie.Need-ubx-at-requires
+ubx-at-requires c κs = search needs
 
 returns-2 : tie.Need-returns-2
 returns-2 c =
-    let a = c .before .before .before .before .before .args in
-    let l = length-append (a .held .now) (a .piece .now) in
-    seen-cut _ (a .i) (c .before .before .before .before .before .pre .2) _ (length-here _ (a .i) _ (c .before .three-at .ensures .0)) (omega (arith, l))
+    let a = c .before .before .before .before .before .before .args in
+    c .ubx-at .ensures ∙ at-b5 _ _ (c .before .before .before .if1 .left) (first-is (a .held .now ++ a .piece .now) (a .i) ∙ sym (c .before .before .byte-at .ensures .0) ∙ c .before .if2 .taken)
 
-add-e : tie.Need-add-e
-add-e c = search needs
-
-add-e-2 : tie.Need-add-e-2
-add-e-2 c = search needs
-
-add-sum-of : tie.Need-add-sum-of
-add-sum-of c = search needs
-
-sum-of-requires : tie.Need-sum-of-requires
-sum-of-requires c κs = search needs
-
-three-at-requires-2 : tie.Need-three-at-requires-2
-three-at-requires-2 c κs = search needs
-
-add-t13 : tie.Need-add-t13
-add-t13 c = search needs
+rtcm-at-requires-2 : tie.Need-rtcm-at-requires-2
+rtcm-at-requires-2 c κs =
+    (omega arith, omega arith, else-d3 _ _ (c .before .before .if1 .left) (λ q. c .if2 .left (c .before .byte-at .ensures .0 ∙ q)) (c .before .before .before .before .before .pre .2))
 
 returns-3 : tie.Need-returns-3
 returns-3 c =
-    let a = c .before .before .before .before .before .before .before .before .args in
-    let l = length-append (a .held .now) (a .piece .now) in
-    seen-good _ (a .i) (c .before .before .before .before .before .before .before .before .pre .2) _ (length-here _ (a .i) _ (c .before .before .before .before .three-at .ensures .0)) _ _ (omega (arith, l)) (c .before .before .sum-of .ensures) (c .before .three-at2 .ensures .0) (c .if3 .taken)
-
-add-t7 : tie.Need-add-t7
-add-t7 c = search needs
-
-returns-4 : tie.Need-returns-4
-returns-4 c =
-    let a = c .before .before .before .before .before .before .before .before .args in
-    let l = length-append (a .held .now) (a .piece .now) in
-    seen-bad _ (a .i) (c .before .before .before .before .before .before .before .before .pre .2) _ (length-here _ (a .i) _ (c .before .before .before .before .three-at .ensures .0)) _ _ (omega (arith, l)) (c .before .before .sum-of .ensures) (c .before .three-at2 .ensures .0) (c .if3 .left)
+    let a = c .before .before .before .before .before .before .args in
+    c .rtcm-at2 .ensures ∙ at-d3 _ _ (c .before .before .before .if1 .left) (λ q. c .before .if2 .left (c .before .before .byte-at .ensures .0 ∙ sym (first-is (a .held .now ++ a .piece .now) (a .i)) ∙ q))
 
 pub seen-at-spec : {M : Type 1} → statement M
 seen-at-spec =
     tie.close
     (tie.spec
-    add-left
-    sub-left
+    rtcm-at-requires
     returns
-    three-at-requires
-    cast-n
-    add-if2
+    byte-at-requires
+    ubx-at-requires
     returns-2
-    add-e
-    add-e-2
-    add-sum-of
-    sum-of-requires
-    three-at-requires-2
-    add-t13
-    returns-3
-    add-t7
-    returns-4)
+    rtcm-at-requires-2
+    returns-3)
