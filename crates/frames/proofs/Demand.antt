@@ -7,12 +7,13 @@ use native.Mathlib.Omega.{arith}
 use lib.ListN.{length, take, drop, length-append, length-drop}
 use lib.Seq.{take-append-seam, length-take-le}
 use Rattle.bits.specs.Told.{Accepted}
+use Rattle.bits.specs.Outcome.{outcome}
 use Rattle.frames.specs.Scan.{Item, Framed, holding, after, scan, framesOf, skippedOf}
 use Rattle.frames.specs.Framing.{Framing, decide, Lawful}
 use Rattle.frames.specs.Feed as fed
 use Rattle.frames.specs.Feed.{Fed, feed}
 use Rattle.bits.specs.Onto.{onto}
-use Rattle.frames.specs.Call.{More, Frame, outcome, called, feedOf}
+use Rattle.frames.specs.Call.{More, Frame, called, feedOf}
 use Rattle.frames.specs.Offered.{Scans, Pieces, none, one, Offered, last, then, Offers, end, piece}
 use Rattle.frames.proofs.FramingLaws.{decides}
 use Rattle.frames.proofs.ItemLaws.{frames-append, skipped-append}
@@ -122,7 +123,7 @@ module _ {W K : Type 0} (F : Framing W K) where
     abbrev pub Ends : List ℕ → ℕ → List ℕ → Type 0
     Ends a n p = (fs : List (List ℕ)) × (s : ℕ) × (b : List ℕ) × (m : ℕ) × Offered F a n p fs s b m
 
-    frame-first : {a p b q : List ℕ} {n m t s l : ℕ} (o : List ℕ) → feedOf F a n p o ≡ outcome (Accepted (Frame l t s m)) b q → Ends b m (drop t p) → Ends a n p
+    frame-first : {a p b q : List ℕ} {n m t s l : ℕ} (o : List ℕ) → feedOf F a n p o ≡ outcome (Accepted (Frame l t s m)) (b, q) → Ends b m (drop t p) → Ends a n p
     frame-first {a} {p} {b} {q} {n} {m} {t} {s} {l} o e z = (take l q ∷ z .0, s + z .1, z .2, z .3, then o e (z .4))
 
     ends-within : (k : ℕ) (o : List ℕ) (a : List ℕ) (n : ℕ) (p : List ℕ) → Fits a n p o → length (scan (decide F) (take n a ++ p) .items) < k → Ends a n p

@@ -6,9 +6,10 @@ use native.Mathlib.Omega.{arith}
 use lib.ListN.{length, take, drop, length-append, length-drop}
 use lib.Seq.{take-all, drop-drop}
 use Rattle.bits.specs.Told.{Told, Accepted}
+use Rattle.bits.specs.Outcome.{outcome}
 use Rattle.frames.specs.Scan.{Framed, scan}
 use Rattle.frames.specs.Framing.{Framing, Lawful, decide}
-use Rattle.frames.specs.Call.{FedAnswer, Frame, outcome, feedOf}
+use Rattle.frames.specs.Call.{FedAnswer, Frame, feedOf}
 use Rattle.frames.specs.Offered.{Chain, start, then}
 use Rattle.frames.proofs.FramingLaws.{decides}
 use Rattle.frames.proofs.FeedLaws.{ofFed, feed-is}
@@ -19,7 +20,7 @@ abbrev pub toCome : {W K : Type 0} → Framing W K → List ℕ → ℕ → List
 toCome F a n p = length (scan (decide F) (take n a ++ p) .items)
 
 module _ {W K : Type 0} (F : Framing W K) (L : Lawful F) (a : List ℕ) (n : ℕ) (p o : List ℕ) (l t s m : ℕ) (b q : List ℕ)
-    (e : feedOf F a n p o ≡ outcome (Accepted (Frame l t s m)) b q) where
+    (e : feedOf F a n p o ≡ outcome (Accepted (Frame l t s m)) (b, q)) where
   taken-fits : t ≤ length p
   taken-fits = is-frame F a n p o L l t s m b q e .keeps .0
 
@@ -39,12 +40,12 @@ chain-ends F L (then {a} {p} {b} {q} {n} {m} {t} {s} {l} {k} o e r) = omega (ari
 
 -- the piece is offered from its byte i on
 module _ {W K : Type 0} (F : Framing W K) (L : Lawful F) (a : List ℕ) (n : ℕ) (p : List ℕ) (i : ℕ) (o : List ℕ) (h : i ≤ length p)
-    {x : Told FedAnswer} {b q : List ℕ} (e : outcome x b q ≡ feedOf F a n (take (length p - i) (drop i p)) o) (l t s m : ℕ) (v : x ≡ Accepted (Frame l t s m)) where
+    {x : Told FedAnswer} {b q : List ℕ} (e : outcome x (b, q) ≡ feedOf F a n (take (length p - i) (drop i p)) o) (l t s m : ℕ) (v : x ≡ Accepted (Frame l t s m)) where
   rest : take (length p - i) (drop i p) ≡ drop i p
   rest = take-all (length p - i) (drop i p) (rw length-drop (omega arith))
 
-  told : feedOf F a n (drop i p) o ≡ outcome (Accepted (Frame l t s m)) b q
-  told = ap (λ r. feedOf F a n r o) (sym rest) ∙ sym e ∙ ap (λ z. outcome z b q) v
+  told : feedOf F a n (drop i p) o ≡ outcome (Accepted (Frame l t s m)) (b, q)
+  told = ap (λ r. feedOf F a n r o) (sym rest) ∙ sym e ∙ ap (λ z. outcome z (b, q)) v
 
   pub stays-in-piece : i + t ≤ length p
   stays-in-piece = omega (arith, taken-fits F L a n (drop i p) o l t s m b q told, length-drop i p)

@@ -5,9 +5,10 @@ use Prim.Native.Nat.{ℕ, _+_, _-_, _≤_, _<_}
 use native.Mathlib.Omega.{arith}
 use lib.ListN.{length, take, drop}
 use Rattle.bits.specs.Told.{Accepted}
+use Rattle.bits.specs.Outcome.{outcome}
 use Rattle.frames.specs.Scan.{Wait, after, scan, bytesOf, framesOf, framed, placed, skipsBefore}
 use Rattle.frames.specs.Framing.{decide}
-use Rattle.frames.specs.Call.{More, outcome, feedOf}
+use Rattle.frames.specs.Call.{More, feedOf}
 use Rattle.frames.specs.Offered.{Scans, Pieces, Offered, Offers, Chain, Calls}
 use Rattle.frames.specs.Rtcm.{rtcm, decideAt}
 use Rattle.frames.specs.Walk.{Place, Walked, framesAt, cut}
@@ -52,7 +53,7 @@ pub rtcm-answers-first : (a : List ℕ) (n : ℕ) (p o : List ℕ) → Fits a n 
 rtcm-answers-first a n p o f = answers-first rtcm a n p o rtcm-lawful f
 
 -- After More fewer than 1,029 bytes are held.
-pub rtcm-held-after-more : (a : List ℕ) (n : ℕ) (p o : List ℕ) (t s m : ℕ) (b q : List ℕ) → feedOf rtcm a n p o ≡ outcome (Accepted (More t s m)) b q → m < 1029
+pub rtcm-held-after-more : (a : List ℕ) (n : ℕ) (p o : List ℕ) (t s m : ℕ) (b q : List ℕ) → feedOf rtcm a n p o ≡ outcome (Accepted (More t s m)) (b, q) → m < 1029
 rtcm-held-after-more a n p o t s m b q e = is-more rtcm a n p o rtcm-lawful t s m b q e .within
 
 -- ---- pieces, each offered until More

@@ -7,11 +7,12 @@ use native.Mathlib.Omega.{arith}
 use lib.ListN.{length, take, drop, length-append}
 use lib.Seq.{length-take-le}
 use Rattle.bits.specs.Told.{Accepted}
+use Rattle.bits.specs.Outcome.{outcome}
 use Rattle.bits.specs.Onto.{onto}
 use Rattle.frames.specs.Framing.{Framing, Lawful, decide}
 use Rattle.frames.specs.Feed as fed
 use Rattle.frames.specs.Feed.{Fed, feed}
-use Rattle.frames.specs.Call.{More, Frame, outcome, called, feedOf}
+use Rattle.frames.specs.Call.{More, Frame, called, feedOf}
 use Rattle.frames.specs.Steps.{sight, Movable, moved}
 use Rattle.frames.specs.declared.scan.Sight.{Sight}
 use Rattle.frames.specs.declared.scan.Sight.the-variants as s
@@ -48,13 +49,13 @@ module _ (a : List ℕ) (n : ℕ) (p o : List ℕ) (count : length (take n a) �
       let e : n + length p - length is ≡ length g = omega (arith, l, bytes-alone is (k .1 .none)) in
       let f : drop (length is) (take n a ++ p) ≡ g = sym (rest-is is g (take n a ++ p) (k .1)) in
       let u : length p ≡ t = sym (k .0) in
-      λ j. outcome (Accepted (More (u j) (length is) (e j))) (onto (f j) a) o
+      λ j. outcome (Accepted (More (u j) (length is) (e j))) (onto (f j) a, o)
   makes (fed.Frame t is x f g) k =
       let l = simp (length-append, length-take-le t p (k .0), count) at (ap length (k .1 .bytes)) in
       let e : n + t - (length is + length f) ≡ length g = omega (arith, l, bytes-alone is (k .1 .none)) in
       let u : drop (length is + length f) (take n a ++ take t p) ≡ g = sym (back-is is f g (take n a ++ take t p) (k .1)) in
       let v : take (length f) (drop (length is) (take n a ++ take t p)) ≡ f = sym (front-is is f g (take n a ++ take t p) (k .1)) in
-      λ j. outcome (Accepted (Frame (length f) t (length is) (e j))) (onto (u j) a) (onto (v j) o)
+      λ j. outcome (Accepted (Frame (length f) t (length is) (e j))) (onto (u j) a, onto (v j) o)
 
 -- ---- a call that is accepted, by the search of its held bytes and its piece
 
@@ -78,14 +79,14 @@ module _ {W K : Type 0} (F : Framing W K) (L : Lawful F) (a : List ℕ) (n : ℕ
 
 module _ (a : List ℕ) (n : ℕ) (p o : List ℕ) where
   pub moved-more : (i k : ℕ) (b : List ℕ) → k ≡ n + length p - i → b ≡ onto (drop i (take n a ++ p)) a
-      → outcome (Accepted (More (length p) i k)) b o ≡ moved a n p o (s.More i)
-  moved-more i k b ek eb = λ j. outcome (Accepted (More (length p) i (ek j))) (eb j) o
+      → outcome (Accepted (More (length p) i k)) (b, o) ≡ moved a n p o (s.More i)
+  moved-more i k b ek eb = λ j. outcome (Accepted (More (length p) i (ek j))) (eb j, o)
 
   pub moved-frame : (i l t k : ℕ) (b c : List ℕ) → t ≤ length p → k ≡ n + length (take (t - 0) p) - (i + l)
       → b ≡ onto (drop (i + l) (take n a ++ take (t - 0) p)) a → c ≡ onto (take l (drop i (take (n - 0) a ++ take (t - 0) p))) o
-      → outcome (Accepted (Frame l t i k)) b c ≡ moved a n p o (s.Frame i l t)
+      → outcome (Accepted (Frame l t i k)) (b, c) ≡ moved a n p o (s.Frame i l t)
   moved-frame i l t k b c h ek eb ec =
       let m : k ≡ n + t - (i + l) = ek ∙ rw (sub-zero t, length-take-le t p h) in
       let u : b ≡ onto (drop (i + l) (take n a ++ take t p)) a = eb ∙ ap (λ x. onto (drop (i + l) (take n a ++ take x p)) a) (sub-zero t) in
       let v : c ≡ onto (take l (drop i (take n a ++ take t p))) o = ec ∙ ap₂ (λ x y. onto (take l (drop i (take x a ++ take y p))) o) (sub-zero n) (sub-zero t) in
-      λ j. outcome (Accepted (Frame l t i (m j))) (u j) (v j)
+      λ j. outcome (Accepted (Frame l t i (m j))) (u j, v j)

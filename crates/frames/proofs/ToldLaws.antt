@@ -12,7 +12,7 @@ use Rattle.bits.proofs.OutcomeLaws.{only-outcome}
 use Rattle.bits.proofs.ToldLaws.{found-again}
 use Rattle.frames.specs.Frame.{Whole}
 use Rattle.frames.specs.Call as call
-use Rattle.frames.specs.Call.{FedAnswer}
+use Rattle.frames.specs.Call.{FedAnswer, FedOutcome}
 use Rattle.frames.specs.Walk as walk
 use Rattle.frames.specs.Walk.{Place}
 use Rattle.frames.specs.Answers.{toldChecked, toldFramed, toldNext, toldFed}
@@ -100,6 +100,5 @@ pub fed-one-to-one : OneToOne toldFed
 fed-one-to-one = found-again toldFed fed fed-again
 
 -- and the held areas and outputs that two runs leave are equal too
-pub only-fed : (d : call.Outcome) {x y : Fed} {a b o q : List ℕ} → call.outcome (toldFed x) a o ≡ d → call.outcome (toldFed y) b q ≡ d → (x ≡ y) × (a ≡ b) × (o ≡ q)
-only-fed d e f =
-    (fed-one-to-one .same (ap (λ r. r .answer) (e ∙ sym f)), ap (λ r. r .held) (e ∙ sym f), ap (λ r. r .out) (e ∙ sym f))
+pub only-fed : (d : FedOutcome) {x y : Fed} {s t : List ℕ × List ℕ} → outcome (toldFed x) s ≡ d → outcome (toldFed y) t ≡ d → (x ≡ y) × (s ≡ t)
+only-fed d = only-outcome toldFed fed-one-to-one d

@@ -8,10 +8,11 @@ use lib.Seq.{take-at}
 use borrow.Author.Tests.{lt-ltb, le-ltb}
 use Rattle.bits.specs.Told.{Accepted, size, room}
 use Rattle.bits.specs.Outcome.{outcome}
+use Rattle.bits.proofs.OutcomeLaws.{Keeps, writing-keeps}
 use Rattle.bits.specs.Crc.{crc}
 use Rattle.bits.proofs.CrcLaws.{crc-below}
 use Rattle.bits.specs.Onto.{onto, over}
-use Rattle.frames.specs.Frame.{threeBytes, header, frameOf, writeFrame}
+use Rattle.frames.specs.Frame.{threeBytes, header, frameOf, frameLength, writeFrame}
 use Rattle.bits.proofs.OntoLaws.{over-zero, over-onto}
 
 module _ (d out : List ℕ) where
@@ -27,6 +28,11 @@ module _ (d out : List ℕ) where
     pub is-framed : length d + 6 ≤ length out → outcome (Accepted (length d + 6)) (onto (frameOf d) out) ≡ writeFrame d out
     unfolding writeFrame
     is-framed l = simp (le-ltb _ _ h, le-ltb _ _ l)
+
+  -- a refused framing writes nothing
+  pub write-keeps : Keeps out (writeFrame d out)
+  unfolding writeFrame
+  write-keeps = writing-keeps out (frameLength d out) (λ n. onto (frameOf d) out)
 
 -- a checksum has 24 bits
 pub sum-below : (s : List ℕ) (r : ℕ) → r ≡ crc s → r < 2 ^ 24

@@ -6,7 +6,7 @@ use Prim.Native.Nat.{ℕ, _+_, _*_, _/_, _%_, _^_}
 use lib.ListN.{length, getD, take}
 use lib.Dec.{ltb, eqb}
 use Rattle.bits.specs.Told.{Told, Accepted, Refused, size, room, notValid, incomplete}
-use Rattle.bits.specs.Outcome.{Outcome, outcome}
+use Rattle.bits.specs.Outcome.{Outcome, outcome, refusing}
 use Rattle.bits.specs.Field.{field}
 use Rattle.bits.specs.Crc.{crc}
 use Rattle.bits.specs.Onto.{onto}
@@ -81,9 +81,13 @@ summed s = s ++ threeBytes (crc s)
 unfoldable pub frameOf : List ℕ → List ℕ
 frameOf d = summed (header (length d) ++ d)
 
--- Framing the data d into an output: Size above 1,023 data bytes, then Room below L + 6 bytes of output, which write nothing; else the frame at the front of the output, of which later bytes stay.
+-- The length of the frame of the data d, if it goes into an output: Size above 1,023 data bytes, then Room below L + 6 bytes of output.
+abbrev pub frameLength : List ℕ → List ℕ → Told ℕ
+frameLength d out =
+    cond (ltb 1023 (length d)) size
+    (cond (ltb (length out) (length d + 6)) (room (length d + 6))
+    (Accepted (length d + 6)))
+
+-- Framing the data d into an output: a refusal writes nothing; else the frame stands at the front of the output, of which later bytes stay.
 unfoldable pub writeFrame : List ℕ → List ℕ → Outcome ℕ (List ℕ)
-writeFrame d out =
-    cond (ltb 1023 (length d)) (outcome size out)
-    (cond (ltb (length out) (length d + 6)) (outcome (room (length d + 6)) out)
-    (outcome (Accepted (length d + 6)) (onto (frameOf d) out)))
+writeFrame d out = refusing out (frameLength d out) (λ n. outcome (Accepted n) (onto (frameOf d) out))

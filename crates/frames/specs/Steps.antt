@@ -6,12 +6,13 @@ use Prim.Native.Nat.{ℕ, _+_, _-_, _≤_, _<_}
 use lib.ListN.{length, getD, take, drop}
 use lib.Dec.{eqb}
 use Rattle.bits.specs.Told.{Accepted}
+use Rattle.bits.specs.Outcome.{outcome}
 use Rattle.bits.specs.Onto.{onto}
 use Rattle.frames.specs.Scan.{Decision, Skip, Take, Wait}
 use Rattle.frames.specs.Framing.{Framing, decide}
 use Rattle.frames.specs.Feed as fed
 use Rattle.frames.specs.Call as call
-use Rattle.frames.specs.Call.{Outcome, outcome}
+use Rattle.frames.specs.Call.{FedOutcome}
 use Rattle.frames.specs.declared.scan.Seen.{Seen}
 use Rattle.frames.specs.declared.scan.Seen.the-variants.{Incomplete, NotValid, Good}
 use Rattle.frames.specs.declared.scan.Sight.{Sight}
@@ -55,7 +56,7 @@ Movable area n m (More i) = (i ≤ n + m) × (n + m ≤ i + area)
 Movable area n m (Frame i l t) = (t ≤ m) × (i + l ≤ n + t) × (n + t ≤ i + area)
 
 -- what a search of the first n bytes of the area a with the piece p behind them leads to: what is left is held, and a frame goes to the front of the output o
-abbrev pub moved : List ℕ → ℕ → List ℕ → List ℕ → Sight → Outcome
-moved a n p o (More i) = outcome (Accepted (call.More (length p) i (n + length p - i))) (onto (drop i (take n a ++ p)) a) o
+abbrev pub moved : List ℕ → ℕ → List ℕ → List ℕ → Sight → FedOutcome
+moved a n p o (More i) = outcome (Accepted (call.More (length p) i (n + length p - i))) (onto (drop i (take n a ++ p)) a, o)
 moved a n p o (Frame i l t) =
-    outcome (Accepted (call.Frame l t i (n + t - (i + l)))) (onto (drop (i + l) (take n a ++ take t p)) a) (onto (take l (drop i (take n a ++ take t p))) o)
+    outcome (Accepted (call.Frame l t i (n + t - (i + l)))) (onto (drop (i + l) (take n a ++ take t p)) a, onto (take l (drop i (take n a ++ take t p))) o)

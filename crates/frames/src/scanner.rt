@@ -4,8 +4,9 @@ ghost use mathlib.Core.List.{_++_};
 ghost use Prim.Native.Nat.{_+_, _-_, _^_, _≤_, _<_};
 ghost use lib.ListN.{length, take, drop};
 ghost use Rattle.bits.specs.Onto.{onto};
+ghost use Rattle.bits.specs.Outcome.{outcome};
 ghost use Rattle.frames.specs.Rtcm.{rtcm};
-ghost use Rattle.frames.specs.Call.{outcome, feedOf};
+ghost use Rattle.frames.specs.Call.{feedOf};
 ghost use Rattle.frames.specs.Answers.{toldFed};
 ghost use Rattle.frames.specs.Steps.{moved, Movable};
 use crate::frame;
@@ -41,7 +42,7 @@ pub fn fresh() -> usize
 // Feeds a piece to the scanner whose held bytes are the first `count` of the area `held`. What a call does not take of
 // the piece is to be offered again, until the answer is More.
 pub fn feed(held: &mut [u8], count: usize, piece: &[u8], out: &mut [u8]) -> Fed
-    ensures { λ r. ⌜ outcome (toldFed r) (now (held .exit)) (now (out .exit)) ≡ feedOf rtcm (now (held .entry)) count (now (piece .entry)) (now (out .entry)) ⌝ }
+    ensures { λ r. ⌜ outcome (toldFed r) (now (held .exit), now (out .exit)) ≡ feedOf rtcm (now (held .entry)) count (now (piece .entry)) (now (out .entry)) ⌝ }
 {
     if held.len() != 1029 {
         return Fed::Size;
@@ -63,7 +64,7 @@ pub fn feed(held: &mut [u8], count: usize, piece: &[u8], out: &mut [u8]) -> Fed
 // stands behind it is held.
 fn carry_out(held: &mut [u8], count: usize, piece: &[u8], out: &mut [u8], found: scan::Sight) -> Fed
     requires { ⌜ (count ≤ length (now held)) × (length (now held) ≤ length (now out)) × (count + length (now piece) < 2 ^ 64) × Movable (length (now held)) count (length (now piece)) found ⌝ }
-    ensures { λ r. ⌜ outcome (toldFed r) (now (held .exit)) (now (out .exit)) ≡ moved (now (held .entry)) count (now (piece .entry)) (now (out .entry)) found ⌝ }
+    ensures { λ r. ⌜ outcome (toldFed r) (now (held .exit), now (out .exit)) ≡ moved (now (held .entry)) count (now (piece .entry)) (now (out .entry)) found ⌝ }
 {
     match found {
         scan::Sight::More(i) => {

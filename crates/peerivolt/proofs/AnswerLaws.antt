@@ -9,8 +9,7 @@ use lib.Dec.{eqb}
 use borrow.Author.Tests.{eq-eqb, ne-eqb}
 use Rattle.bits.specs.Told.{Told, Accepted}
 use Rattle.bits.specs.Outcome.{Outcome, outcome}
-use Rattle.frames.specs.Call as call
-use Rattle.frames.specs.Call.{FedAnswer}
+use Rattle.frames.specs.Call.{FedAnswer, FedOutcome}
 use Rattle.messages.specs.Records.{Counted}
 use Rattle.messages.specs.Read1059.{Read1059, outcome1059}
 use Rattle.messages.specs.Read1230.{Read1230, outcome1230}
@@ -72,19 +71,19 @@ either : {A : Type 0} (b : Bool) {x y : A} → x ≡ y → x ≡ cond b y x
 either true e = e
 either false e = refl
 
-pub not-fed : (a o : List ℕ) (w : call.Outcome) (e : List ℕ) → (length e ≡ 8 → ⊥) → returned 9 e (a, o) ≡ feeds a o w e
+pub not-fed : (a o : List ℕ) (w : FedOutcome) (e : List ℕ) → (length e ≡ 8 → ⊥) → returned 9 e (a, o) ≡ feeds a o w e
 unfolding feeds
-not-fed a o w e n = either (eqb (length a) 1029) (not-sized fedValues e (a, o) (w .answer) (w .held, w .out) n)
+not-fed a o w e n = either (eqb (length a) 1029) (not-sized fedValues e (a, o) (w .answer) (w .areas) n)
 
-pub not-held : (a o : List ℕ) (w : call.Outcome) (e : List ℕ) → (length a ≡ 1029 → ⊥) → returned 9 e (a, o) ≡ feeds a o w e
+pub not-held : (a o : List ℕ) (w : FedOutcome) (e : List ℕ) → (length a ≡ 1029 → ⊥) → returned 9 e (a, o) ≡ feeds a o w e
 unfolding feeds
 not-held a o w e n = simp (ne-eqb (length a) 1029 n)
 
-pub fed : (a o : List ℕ) {told : Told FedAnswer} {a' o' : List ℕ} {w : call.Outcome} (e : List ℕ) {r : ℕ} {e' : List ℕ} → length a ≡ 1029
-    → length e ≡ 8 → numbers r e' ≡ inNumbers fedValues told → call.outcome told a' o' ≡ w → returned r e' (a', o') ≡ feeds a o w e
+pub fed : (a o : List ℕ) {told : Told FedAnswer} {a' o' : List ℕ} {w : FedOutcome} (e : List ℕ) {r : ℕ} {e' : List ℕ} → length a ≡ 1029
+    → length e ≡ 8 → numbers r e' ≡ inNumbers fedValues told → outcome told (a', o') ≡ w → returned r e' (a', o') ≡ feeds a o w e
 unfolding feeds
 fed a o e k h q p =
-    sized fedValues (λ (w : call.Outcome). w .answer) (λ (w : call.Outcome). (w .held, w .out)) e (a, o) h q p
+    sized fedValues (λ (w : FedOutcome). w .answer) (λ (w : FedOutcome). w .areas) e (a, o) h q p
     ∙ simp (eq-eqb (length a) 1029 k)
 
 -- ---- reading a bias block

@@ -1,5 +1,4 @@
 pub mod SumLaws
-pub mod KeepLaws
 pub mod AccountLaws
 pub mod NumberLaws
 pub mod ArgumentLaws

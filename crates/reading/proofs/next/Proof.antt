@@ -4,10 +4,11 @@ use Prim.Native.Nat.{_-_, _≤_}
 use native.Mathlib.Omega.{arith}
 use lib.ListN.{length}
 use Rattle.frames.specs.Rtcm.{rtcm}
-use Rattle.frames.specs.Call.{outcome, feedOf}
+use Rattle.bits.specs.Outcome.{outcome}
+use Rattle.frames.specs.Call.{feedOf}
 use Rattle.frames.specs.Answers.{toldFed}
 use Rattle.frames.proofs.RtcmLaws.{rtcm-lawful}
-use Rattle.reading.proofs.KeepLaws.{frame-keeps, more-keeps}
+use Rattle.frames.proofs.AnswerLaws.{frame-keeps, more-keeps}
 use borrow.Author.Needs.{needs}
 use Rattle.reading.proofs.next.Statement.{statement}
 use Rattle.reading.proofs.next.Tie as tie
@@ -43,7 +44,7 @@ returns c = λ h.
     let z : a .account .to ≤ 65536 = h .piece in
     let w : a .account .to ≤ length (a .piece .now) = omega (arith, z, c .before .before .before .before .before .before .before .before .part-arg2 .given .0) in
     let n : length (p .result .now) ≡ a .account .to - a .account .from = p .ensures (h .order) w in
-    let e = subst (λ x. outcome (toldFed x) (f .last .0) (f .last .1 .1 .1 .0) ≡ feedOf rtcm (a .held .now) (a .account .held) (p .result .now) (a .frame .now)) (v .1) (f .ensures) in
+    let e = subst (λ x. outcome (toldFed x) (f .last .0, f .last .1 .1 .1 .0) ≡ feedOf rtcm (a .held .now) (a .account .held) (p .result .now) (a .frame .now)) (v .1) (f .ensures) in
     let k = frame-keeps rtcm (a .held .now) (a .account .held) (p .result .now) (a .frame .now) rtcm-lawful (v .0 .0) (v .0 .1 .0) (v .0 .1 .1 .0) (v .0 .1 .1 .1 .0) (f .last .0) (f .last .1 .1 .1 .0) e in
     c .framed .ensures h (omega (arith, k .0, n)) (k .1) (k .2)
 
@@ -57,7 +58,7 @@ returns-2 c = λ h.
     let z : a .account .to ≤ 65536 = h .piece in
     let w : a .account .to ≤ length (a .piece .now) = omega (arith, z, c .before .before .before .before .before .before .before .before .before .before .part-arg2 .given .0) in
     let n : length (p .result .now) ≡ a .account .to - a .account .from = p .ensures (h .order) w in
-    let e = subst (λ x. outcome (toldFed x) (f .last .0) (f .last .1 .1 .1 .0) ≡ feedOf rtcm (a .held .now) (a .account .held) (p .result .now) (a .frame .now)) (v .1) (f .ensures) in
+    let e = subst (λ x. outcome (toldFed x) (f .last .0, f .last .1 .1 .1 .0) ≡ feedOf rtcm (a .held .now) (a .account .held) (p .result .now) (a .frame .now)) (v .1) (f .ensures) in
     let k = more-keeps rtcm (a .held .now) (a .account .held) (p .result .now) (a .frame .now) rtcm-lawful (v .0 .0) (v .0 .1 .0) (v .0 .1 .1 .0) (f .last .0) (f .last .1 .1 .1 .0) e in
     c .refill .ensures (c .before .passed .ensures h (omega (arith, k .0, n)) (k .1)) (omega (arith, s .good))
 
