@@ -6,8 +6,11 @@
 #   make relay               the example relay, build/peerivolt/opt/relay
 #   make bench               the benchmark against a plain C program, and against the Rust where it is there
 #   make differential        the runs against the Rust, where its source, cargo and Debian's librust-tinyvec-dev are there
+#   make differential-faults plants faults in the plain reference, each of which those runs must notice
 #   make lint                clang and cppcheck over the C files, where they are there
 #   make clean
+#
+# RUST_SOURCE names the source of rtcm-rs, which is else looked for in ../shared/docs/src. A named one has to be there.
 #
 # LIB=ref or LIB=plain puts a stand-in in the place of the library (the plain reference, or the plain C program of the
 # benchmark), to try the tests without it. Stand-ins stay in build/ and are never installed but below it.
@@ -16,7 +19,6 @@ VERSION := 0.1.0
 SONAME := libpeerivolt.so.0
 PREFIX ?= /usr/local
 RT ?= rt
-RUST_SOURCE ?= ../shared/docs/src
 LIB ?= peerivolt
 
 STD := -std=c11
@@ -26,15 +28,16 @@ SANITIZE := -fsanitize=address,undefined -fno-sanitize-recover=all -fno-omit-fra
 
 B := build/$(LIB)
 
-# The recordings, wherever in the repository they stand.
+# The recordings, and the recorded answers of the Rust.
 RECORDING_NAMES := rtcm3-1.bin rtcm3-1.1059.tsv rtcm3-3.bin rtcm3.bndm.bin rtcm3.bin ublox-f9p-rtcm.bin testglo.rtcm3
-RECORDING_DIRS ?= c/data crates/*/data
+RECORDING_DIRS ?= c/data
 RECORDINGS := $(foreach name,$(RECORDING_NAMES),$(firstword $(wildcard $(addsuffix /$(name),$(RECORDING_DIRS)))))
 recording = $(firstword $(filter %/$(1),$(RECORDINGS)))
+ANSWERS := c/data/answers.hex
 
 RATTLE_FILES := crates.txt $(shell find crates -name must-fail -prune -o -type f \( -name '*.rt' -o -name '*.antt' \) -print)
 
-.PHONY: all install check relay bench bench-run differential lint clean
+.PHONY: all install check relay bench bench-run differential differential-faults lint clean
 .PHONY: check-papers check-header check-opt check-san check-valgrind check-cpp check-exports check-relay check-install
 
 all: libpeerivolt.a libpeerivolt.so
@@ -113,7 +116,7 @@ $(B)/pic/%_table.o: c/%.c Makefile
 
 # ---- Programs.
 
-TESTS := test_calls test_random test_recordings
+TESTS := test_calls test_random test_recordings test_answers
 PROGRAMS := $(TESTS) relay
 HELPERS := crumbs expected
 
@@ -180,16 +183,19 @@ check-opt: $(TESTS:%=$(B)/opt/%) $(B)/opt/test_calls_shared
 	$(B)/opt/test_calls_shared
 	$(B)/opt/test_random 120000
 	$(B)/opt/test_recordings $(RECORDINGS)
+	$(B)/opt/test_answers $(ANSWERS)
 
 check-san: $(TESTS:%=$(B)/san/%)
 	$(B)/san/test_calls
 	$(B)/san/test_random 40000
 	$(B)/san/test_recordings $(RECORDINGS)
+	$(B)/san/test_answers $(ANSWERS)
 
 check-valgrind: $(TESTS:%=$(B)/opt/%)
 	@if command -v valgrind >/dev/null; then \
 	    run() { echo "valgrind $$*"; valgrind -q --error-exitcode=1 --leak-check=full --errors-for-leak-kinds=definite "$$@"; }; \
-	    run $(B)/opt/test_calls && run $(B)/opt/test_random 2000 && run $(B)/opt/test_recordings $(RECORDINGS); \
+	    run $(B)/opt/test_calls && run $(B)/opt/test_random 2000 && run $(B)/opt/test_recordings $(RECORDINGS) && \
+	    run $(B)/opt/test_answers $(ANSWERS); \
 	else \
 	    echo "valgrind: skipped, since it is not here"; \
 	fi
@@ -239,8 +245,11 @@ bench: $(ARCHIVE)
 bench-run: $(BENCH)
 	$(BENCH)
 
-differential: libpeerivolt.a
-	RTCM_RS_SOURCE="$(RUST_SOURCE)" PEERIVOLT_ARCHIVE="$(CURDIR)/libpeerivolt.a" differential/run.sh
+differential: $(ARCHIVE)
+	RTCM_RS_SOURCE="$(RUST_SOURCE)" PEERIVOLT_ARCHIVE="$(CURDIR)/$(ARCHIVE)" differential/run.sh
+
+differential-faults:
+	RTCM_RS_SOURCE="$(RUST_SOURCE)" differential/faults.sh
 
 lint:
 	@if command -v clang >/dev/null; then \

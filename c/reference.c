@@ -4,6 +4,7 @@
 #include <string.h>
 
 #include "peerivolt.h"
+#include "signals.h"
 
 /* ---- Answers. ---- */
 
@@ -430,9 +431,6 @@ uint32_t ref_1059_read(const uint8_t *data, size_t data_len, size_t start, uint8
     return accept_two(extra, records.count, cursor.place);
 }
 
-/* The glo numbers of the 1230 signals, in mask order. */
-static const uint8_t mask_signals[4] = { 2, 3, 8, 9 };
-
 uint32_t ref_1230_read(const uint8_t *data, size_t data_len, size_t start, uint8_t *signals, size_t signals_len,
                        int16_t *biases, size_t biases_len, uint64_t *extra, size_t extra_len)
 {
@@ -448,7 +446,7 @@ uint32_t ref_1230_read(const uint8_t *data, size_t data_len, size_t start, uint8
             continue;
         uint64_t bias = next_field(&cursor, 16);
         if (!cursor.is_short)
-            add_record(&records, 0, mask_signals[i], as_twos(bias, 16));
+            add_record(&records, 0, signals_1230[i], as_twos(bias, 16));
     }
     if (cursor.is_short)
         return refuse(extra, PV_SHORT, cursor.place);
@@ -465,9 +463,8 @@ uint32_t ref_1230_read(const uint8_t *data, size_t data_len, size_t start, uint8
 
 static int is_1059_signal(uint8_t signal)
 {
-    static const uint8_t known[] = { 0, 1, 2, 5, 6, 7, 8, 9, 10, 11, 14, 15 };
-    for (size_t i = 0; i < sizeof known; i++)
-        if (known[i] == signal)
+    for (size_t i = 0; i < sizeof signals_1059; i++)
+        if (signals_1059[i] == signal)
             return 1;
     return 0;
 }
@@ -555,7 +552,7 @@ uint32_t ref_1059_write(uint8_t *data, size_t data_len, size_t start, const uint
 
 static int is_1230_signal(uint8_t signal)
 {
-    return count_of(mask_signals, 4, signal) > 0;
+    return count_of(signals_1230, 4, signal) > 0;
 }
 
 uint32_t ref_1230_write(uint8_t *data, size_t data_len, size_t start, const uint8_t *signals, size_t signals_len,
@@ -576,9 +573,9 @@ uint32_t ref_1230_write(uint8_t *data, size_t data_len, size_t start, const uint
         return refuse(extra, PV_ROOM, bits);
     size_t place = start + 4;
     for (size_t m = 0; m < 4; m++) {
-        set_bit(data, start + m, count_of(signals, signals_len, mask_signals[m]) > 0);
+        set_bit(data, start + m, count_of(signals, signals_len, signals_1230[m]) > 0);
         for (size_t i = 0; i < signals_len; i++) {
-            if (signals[i] != mask_signals[m])
+            if (signals[i] != signals_1230[m])
                 continue;
             put_field(data, place, 16, (uint64_t)biases[i]);
             place += 16;
@@ -600,47 +597,6 @@ float ref_1230_metres(int16_t raw)
 }
 
 /* ---- Signal tables. ---- */
-
-struct signal {
-    uint32_t number;
-    uint32_t band;
-    uint32_t letter;
-};
-
-static const struct signal gps[] = {
-    { 2, 1, 'C' }, { 3, 1, 'P' }, { 4, 1, 'W' }, { 8, 2, 'C' }, { 9, 2, 'P' },
-    { 10, 2, 'W' }, { 15, 2, 'S' }, { 16, 2, 'L' }, { 17, 2, 'X' }, { 22, 5, 'I' },
-    { 23, 5, 'Q' }, { 24, 5, 'X' }, { 30, 1, 'S' }, { 31, 1, 'L' }, { 32, 1, 'X' },
-};
-static const struct signal glo[] = { { 2, 1, 'C' }, { 3, 1, 'P' }, { 8, 2, 'C' }, { 9, 2, 'P' } };
-static const struct signal gal[] = {
-    { 2, 1, 'C' }, { 3, 1, 'A' }, { 4, 1, 'B' }, { 5, 1, 'X' }, { 6, 1, 'Z' },
-    { 8, 6, 'C' }, { 9, 6, 'A' }, { 10, 6, 'B' }, { 11, 6, 'X' }, { 12, 6, 'Z' },
-    { 14, 7, 'I' }, { 15, 7, 'Q' }, { 16, 7, 'X' }, { 18, 8, 'I' }, { 19, 8, 'Q' },
-    { 20, 8, 'X' }, { 22, 5, 'I' }, { 23, 5, 'Q' }, { 24, 5, 'X' },
-};
-static const struct signal sbas[] = { { 2, 1, 'C' }, { 22, 5, 'I' }, { 23, 5, 'Q' }, { 24, 5, 'X' } };
-static const struct signal qzss[] = {
-    { 2, 1, 'C' }, { 9, 6, 'S' }, { 10, 6, 'L' }, { 11, 6, 'X' }, { 15, 2, 'S' },
-    { 16, 2, 'L' }, { 17, 2, 'X' }, { 22, 5, 'I' }, { 23, 5, 'Q' }, { 24, 5, 'X' },
-    { 30, 1, 'S' }, { 31, 1, 'L' }, { 32, 1, 'X' },
-};
-static const struct signal bds[] = {
-    { 2, 2, 'I' }, { 3, 2, 'Q' }, { 4, 2, 'X' }, { 8, 6, 'I' }, { 9, 6, 'Q' }, { 10, 6, 'X' },
-    { 14, 7, 'I' }, { 15, 7, 'Q' }, { 16, 7, 'X' }, { 22, 5, 'D' }, { 23, 5, 'P' }, { 24, 5, 'X' },
-    { 25, 7, 'D' }, { 30, 1, 'D' }, { 31, 1, 'P' }, { 32, 1, 'X' },
-};
-static const struct signal navic[] = { { 8, 9, 'A' }, { 22, 5, 'A' } };
-
-struct table {
-    const struct signal *entries;
-    size_t count;
-};
-
-#define TABLE(entries) { entries, sizeof entries / sizeof entries[0] }
-static const struct table tables[] = {
-    TABLE(gps), TABLE(glo), TABLE(gal), TABLE(sbas), TABLE(qzss), TABLE(bds), TABLE(navic),
-};
 
 static struct table table_of(uint32_t system)
 {

@@ -1,6 +1,8 @@
 /* Every function of the header: what it answers, its limits, its refusals and their order, and what it leaves alone. */
 #include "test.h"
 
+#include "signals.h"
+
 /* The areas of the call under test. A refused call must leave all of them as they were, but for `extra`. */
 static struct area data, out, held, piece, satellites, signals, biases, extra;
 static struct area *const lent[] = { &data, &out, &held, &piece, &satellites, &signals, &biases };
@@ -604,7 +606,7 @@ static void write_1059_faults(void)
     REFUSED(pv_1059_write(DATA, 0, LISTS_1059, EXTRA), PV_SIGNAL, 2);
     for (unsigned signal = 0; signal < 256; signal++) {
         set_1059(2, 0, signal, 8191);
-        if (signal < 16 && signal != 3 && signal != 4 && signal != 12 && signal != 13)
+        if (memchr(signals_1059, (int)signal, sizeof signals_1059) != NULL)
             ACCEPTED(pv_1059_write(DATA, 0, LISTS_1059, EXTRA), 6 + 3 * 30);
         else
             REFUSED(pv_1059_write(DATA, 0, LISTS_1059, EXTRA), PV_SIGNAL, 2);
@@ -731,7 +733,7 @@ static void read_1230(void)
     lend_1230(6);
     set_1230(4, 77, 78);
     ACCEPTED(pv_1230_read(DATA, 0, LISTS_1230, EXTRA), 4, 68);
-    CHECK(memcmp(signals.bytes, (const uint8_t[]){ 2, 3, 8, 9, 77 }, 5) == 0);
+    CHECK(memcmp(signals.bytes, signals_1230, 4) == 0 && signals.bytes[4] == 77);
     const int16_t *bias = area_i16(&biases);
     CHECK(bias[0] == 0x10 && bias[1] == 0x20 && bias[2] == 0x37 && bias[3] == -1 && bias[4] == 78);
 }
@@ -770,13 +772,12 @@ static void write_1230_refusals(void)
 /* Every set of signals, in falling order of the list: the mask order decides, and other bits stay. */
 static void write_1230_every_mask(void)
 {
-    static const uint8_t numbers[] = { 9, 8, 3, 2 };
     for (unsigned mask = 0; mask < 16; mask++) {
         size_t n = 0;
         lend_1230(4);
         for (unsigned i = 0; i < 4; i++)
             if (mask >> i & 1)
-                set_1230(n++, numbers[i], -32768 + (int)i);
+                set_1230(n++, signals_1230[3 - i], -32768 + (int)i);
         area_lend(&data, 10, 0xFF);
         ACCEPTED(pv_1230_write(DATA, 3, signals.bytes, n, area_i16(&biases), n, EXTRA), 3 + 4 + 16 * n);
         ACCEPTED(pv_field_read_unsigned(DATA, 0, 7, EXTRA), 0x70 | mask);
@@ -784,7 +785,7 @@ static void write_1230_every_mask(void)
         ACCEPTED(pv_1230_read(DATA, 3, LISTS_1230, EXTRA), n, 3 + 4 + 16 * n);
         for (unsigned i = 0; i < 4; i++)
             if (mask >> i & 1)
-                CHECK(signals.bytes[--n] == numbers[i] && area_i16(&biases)[n] == -32768 + (int)i);
+                CHECK(signals.bytes[--n] == signals_1230[3 - i] && area_i16(&biases)[n] == -32768 + (int)i);
     }
 }
 
@@ -810,28 +811,12 @@ static void metres(void)
 
 /* ---- Signal tables. ---- */
 
-/* Each table as text: number, band and letter, one after another. */
-static const char *const tables[] = {
-    "2 1C 3 1P 4 1W 8 2C 9 2P 10 2W 15 2S 16 2L 17 2X 22 5I 23 5Q 24 5X 30 1S 31 1L 32 1X",
-    "2 1C 3 1P 8 2C 9 2P",
-    "2 1C 3 1A 4 1B 5 1X 6 1Z 8 6C 9 6A 10 6B 11 6X 12 6Z 14 7I 15 7Q 16 7X 18 8I 19 8Q 20 8X 22 5I 23 5Q 24 5X",
-    "2 1C 22 5I 23 5Q 24 5X",
-    "2 1C 9 6S 10 6L 11 6X 15 2S 16 2L 17 2X 22 5I 23 5Q 24 5X 30 1S 31 1L 32 1X",
-    "2 2I 3 2Q 4 2X 8 6I 9 6Q 10 6X 14 7I 15 7Q 16 7X 22 5D 23 5P 24 5X 25 7D 30 1D 31 1P 32 1X",
-    "8 9A 22 5A",
-    "",
-};
-
-/* The place in the text behind the entry of a number, or null. */
-static const char *find_number(const char *table, unsigned number, unsigned *band, char *letter)
+/* The entry of a number in a system's table, or null. */
+static const struct signal *find_number(uint32_t system, uint32_t number)
 {
-    unsigned entry;
-    int used;
-    while (sscanf(table, "%u %u%c%n", &entry, band, letter, &used) == 3) {
-        table += used;
-        if (entry == number)
-            return table;
-    }
+    for (size_t i = 0; system < sizeof tables / sizeof tables[0] && i < tables[system].count; i++)
+        if (tables[system].entries[i].number == number)
+            return tables[system].entries + i;
     return NULL;
 }
 
@@ -839,16 +824,15 @@ static void numbers_to_signals(void)
 {
     for (uint32_t system = 0; system < 8; system++) {
         for (uint32_t number = 0; number < 300; number++) {
-            unsigned band = 0;
-            char letter = 0;
-            if (find_number(tables[system], number, &band, &letter) == NULL) {
+            const struct signal *signal = find_number(system, number);
+            if (signal == NULL) {
                 ACCEPTED(pv_signal_of(system, number, EXTRA), 0);
                 continue;
             }
-            ACCEPTED(pv_signal_of(system, number, EXTRA), 1, band, (uint8_t)letter);
-            ACCEPTED(pv_number_of(system, band, (uint8_t)letter, EXTRA), 1, number);
-            ACCEPTED(pv_number_of(system, band + 256, (uint8_t)letter, EXTRA), 0);
-            ACCEPTED(pv_number_of(system, band, (uint8_t)letter + 256u, EXTRA), 0);
+            ACCEPTED(pv_signal_of(system, number, EXTRA), 1, signal->band, signal->letter);
+            ACCEPTED(pv_number_of(system, signal->band, signal->letter, EXTRA), 1, number);
+            ACCEPTED(pv_number_of(system, signal->band + 256, signal->letter, EXTRA), 0);
+            ACCEPTED(pv_number_of(system, signal->band, signal->letter + 256, EXTRA), 0);
             ACCEPTED(pv_signal_of(system, number + 256, EXTRA), 0);
             ACCEPTED(pv_signal_of(system + 256, number, EXTRA), 0);
         }

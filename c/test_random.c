@@ -8,6 +8,7 @@
 
 #include "random.h"
 #include "reference.h"
+#include "signals.h"
 
 /* ---- Random numbers. ---- */
 
@@ -461,13 +462,12 @@ static void try_1059_read(void)
 /* Records that are mostly legal, over a few or over all satellites. */
 static void random_records(void)
 {
-    static const uint8_t known[] = { 0, 1, 2, 5, 6, 7, 8, 9, 10, 11, 14, 15 };
     size_t spread = PICK(1, 2, 5, 20, 63, 64);
     int faulty = one_in(6);
     for (size_t i = 0; i < satellites.ours.size; i++)
         set_byte(&satellites, i, faulty && one_in(20) ? below(256) : below(spread));
     for (size_t i = 0; i < signals.ours.size; i++)
-        set_byte(&signals, i, faulty && one_in(20) ? below(40) : known[below(sizeof known)]);
+        set_byte(&signals, i, faulty && one_in(20) ? below(40) : signals_1059[below(sizeof signals_1059)]);
     for (size_t i = 0; i < biases.ours.size / 2; i++)
         set_bias(i, (int64_t)below(16384) - 8192 + (faulty && one_in(20) ? 8192 : 0));
 }
@@ -497,11 +497,10 @@ static void try_1230_read(void)
 
 static void try_1230_write(void)
 {
-    static const uint8_t known[] = { 2, 3, 8, 9 };
     lend_random(&data, one_in(30) ? PICK(1023, 1024) : below(16));
     lend_lists(below(6), 0);
     for (size_t i = 0; i < signals.ours.size; i++)
-        set_byte(&signals, i, one_in(12) ? below(12) : known[below(4)]);
+        set_byte(&signals, i, one_in(12) ? below(12) : signals_1230[below(4)]);
     size_t start = random_start(data.ours.size, 4 + 16 * signals.ours.size);
     lend_extra();
     compare("pv_1230_write", pv_1230_write(OURS(data), start, OURS(signals), OUR_BIASES, OUR_EXTRA),

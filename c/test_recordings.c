@@ -1,10 +1,12 @@
 /*
- * Real recordings, scanned in pieces of 1, 7, 1,460 and 65,536 bytes: the counts are known, whatever the cut. The bias
- * blocks in them are read and held to what another program decoded.
+ * Real recordings, scanned whole by repeated frame checks and in pieces of 1, 7, 1,460 and 65,536 bytes: the counts are
+ * known, whatever the cut. The bias blocks in them are read, held to what another program decoded, and written back.
  *
  * Usage: test_recordings FILE..   where a FILE is known by its last name
  */
 #include "test.h"
+
+#include "signals.h"
 
 struct recording {
     const char *name;
@@ -44,6 +46,24 @@ static const char *last_name(const char *path)
     return slash == NULL ? path : slash + 1;
 }
 
+/* The whole-stream scan, by a frame check at each D3. */
+static struct recording scan_whole(void)
+{
+    struct recording found = { "", stream_len, 0, 0, 0 };
+    uint64_t extra[PV_EXTRA_SIZE];
+    size_t place = 0;
+    while (place < stream_len) {
+        uint32_t refusal = pv_frame_check(stream + place, stream_len - place, extra, PV_EXTRA_SIZE);
+        if (stream[place] == 0xD3 && refusal == PV_INCOMPLETE)
+            break;
+        found.frames += refusal == PV_ACCEPTED;
+        found.skipped += refusal != PV_ACCEPTED;
+        place += refusal == PV_ACCEPTED ? extra[PV_AT_FRAME_LENGTH] : 1;
+    }
+    found.held = stream_len - place;
+    return found;
+}
+
 /* Called for each frame, with its place in the stream. */
 typedef void frame_visitor(const uint8_t *frame, size_t place);
 
@@ -73,7 +93,7 @@ static struct recording scan_in_pieces(size_t piece_len, frame_visitor *visit)
 /* ---- Bias blocks. ---- */
 
 static FILE *decoded; /* Place of the frame, satellite, signal, raw bias of each 1059 record; or null. */
-static size_t records_1059, messages_1230, biases_1230;
+static size_t messages_1059, records_1059, messages_1230, biases_1230;
 
 static uint64_t number_of(const uint8_t *frame, size_t *data_len)
 {
@@ -95,6 +115,14 @@ static void hold_to_decoded(size_t place, unsigned satellite, unsigned signal, i
     CHECK_EQ(bias, bias_there);
 }
 
+/* The data of a frame with every bit of the block turned: writing the block back must give the data. */
+static void turn_block(uint8_t *copy, const uint8_t *data, size_t data_len, uint64_t start, uint64_t end)
+{
+    memcpy(copy, data, data_len);
+    for (uint64_t bit = start; bit < end; bit++)
+        copy[bit / 8] ^= (uint8_t)(0x80 >> bit % 8);
+}
+
 /* Reads the block, holds it to what is known, and writes it back to the same bits. */
 static void visit_1059(const uint8_t *frame, size_t data_len, size_t place)
 {
@@ -107,10 +135,11 @@ static void visit_1059(const uint8_t *frame, size_t data_len, size_t place)
     uint64_t end = extra[PV_AT_READ_END];
     for (size_t i = 0; i < n; i++)
         hold_to_decoded(place, satellites[i], signals[i], biases[i]);
+    for (size_t i = 1; i < n; i++)
+        CHECK(satellites[i - 1] <= satellites[i]);
+    messages_1059++;
     records_1059 += n;
-    memcpy(copy, frame + 3, data_len);
-    for (uint64_t bit = BLOCK_1059_START; bit < end; bit++)
-        copy[bit / 8] ^= (uint8_t)(0x80 >> bit % 8);
+    turn_block(copy, frame + 3, data_len, BLOCK_1059_START, end);
     CHECK_EQ(pv_1059_write(copy, data_len, BLOCK_1059_START, satellites, n, signals, n, biases, n, extra, PV_EXTRA_SIZE),
              PV_ACCEPTED);
     CHECK_EQ(extra[PV_AT_WRITTEN_END], end);
@@ -127,11 +156,14 @@ static void visit_1230(const uint8_t *frame, size_t data_len)
     size_t n = extra[PV_AT_READ_RECORDS];
     messages_1230++;
     biases_1230 += n;
-    memcpy(copy, frame + 3, data_len);
+    turn_block(copy, frame + 3, data_len, BLOCK_1230_START, extra[PV_AT_READ_END]);
     CHECK_EQ(pv_1230_write(copy, data_len, BLOCK_1230_START, signals, n, biases, n, extra, PV_EXTRA_SIZE), PV_ACCEPTED);
     CHECK(memcmp(copy, frame + 3, data_len) == 0);
-    for (size_t i = 0; i < n; i++)
+    CHECK(n == 0 || n == PV_1230_MAX);
+    for (size_t i = 0; i < n; i++) {
+        CHECK_EQ(signals[i], signals_1230[i]);
         CHECK_EQ(biases[i], -3597);
+    }
 }
 
 static void visit_frame(const uint8_t *frame, size_t place)
@@ -147,16 +179,20 @@ static void visit_frame(const uint8_t *frame, size_t place)
 
 /* ---- The run. ---- */
 
+static void hold_to_known(struct recording found, const struct recording *known)
+{
+    CHECK_EQ(found.bytes, known->bytes);
+    CHECK_EQ(found.frames, known->frames);
+    CHECK_EQ(found.skipped, known->skipped);
+    CHECK_EQ(found.held, known->held);
+}
+
 static void scan_recording(const struct recording *known)
 {
     static const size_t cuts[] = { 1, 7, 1460, 65536 };
-    for (size_t i = 0; i < sizeof cuts / sizeof cuts[0]; i++) {
-        struct recording found = scan_in_pieces(cuts[i], i == 0 ? visit_frame : NULL);
-        CHECK_EQ(found.bytes, known->bytes);
-        CHECK_EQ(found.frames, known->frames);
-        CHECK_EQ(found.skipped, known->skipped);
-        CHECK_EQ(found.held, known->held);
-    }
+    hold_to_known(scan_whole(), known);
+    for (size_t i = 0; i < sizeof cuts / sizeof cuts[0]; i++)
+        hold_to_known(scan_in_pieces(cuts[i], i == 0 ? visit_frame : NULL), known);
 }
 
 static void open_decoded(const char *path)
@@ -182,8 +218,10 @@ int main(int argc, char **argv)
         }
     }
     CHECK_EQ(scanned, sizeof recordings / sizeof recordings[0]);
+    CHECK_EQ(messages_1059, 34);
     CHECK_EQ(records_1059, 3162);
     CHECK_EQ(messages_1230, 9);
+    CHECK_EQ(biases_1230, 28);
     printf("recordings: %zu scanned, %zu records of 1059, %zu messages of 1230 with %zu biases\n", scanned, records_1059,
            messages_1230, biases_1230);
     if (decoded != NULL)

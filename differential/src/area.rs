@@ -4,10 +4,29 @@ use std::time::{Duration, Instant};
 /// Inputs that are smaller than another, made one after the other.
 pub type Smaller<'a, C> = Box<dyn Iterator<Item = C> + 'a>;
 
+/// What a comparison on one input showed.
+pub struct Verdict {
+    /// Whether it shows more than what nearly every input shows, as a refusal of data that are too short.
+    pub means: bool,
+    /// What differs, or nothing.
+    pub difference: Option<String>,
+}
+
+impl Verdict {
+    pub fn new(means: bool, difference: Option<String>) -> Verdict {
+        Verdict { means, difference }
+    }
+
+    /// An answer of the Rust that no input of the domain may have.
+    pub fn never(answer: impl std::fmt::Debug) -> Verdict {
+        Verdict::new(true, Some(format!("the Rust answers {answer:?}")))
+    }
+}
+
 /// An input that both sides are given.
 pub trait Case: Clone {
-    /// What differs, or nothing. An input outside the domain has no difference.
-    fn difference(&self) -> Option<String>;
+    /// Compares. An input outside the domain has no difference.
+    fn verdict(&self) -> Verdict;
 
     /// Inputs that are smaller than this one, the smallest first.
     fn smaller(&self) -> Smaller<'_, Self> {
@@ -22,19 +41,23 @@ pub trait Case: Clone {
 const MADE_SMALL: u64 = 8;
 const PATIENCE: Duration = Duration::from_secs(1);
 
-/// One area of comparison and its counts.
+/// One area of comparison and its counts. It has to come to a least number of comparisons that mean something.
 pub struct Area {
     name: &'static str,
+    least: u64,
     compared: u64,
+    meant: u64,
     differing: u64,
     smallest: Option<String>,
 }
 
 impl Area {
-    pub fn new(name: &'static str) -> Area {
+    pub fn new(name: &'static str, least: u64) -> Area {
         Area {
             name,
+            least,
             compared: 0,
+            meant: 0,
             differing: 0,
             smallest: None,
         }
@@ -42,8 +65,10 @@ impl Area {
 
     /// Compares on one input.
     pub fn compare<C: Case>(&mut self, case: &C) {
+        let verdict = case.verdict();
         self.compared += 1;
-        if case.difference().is_none() {
+        self.meant += u64::from(verdict.means);
+        if verdict.difference.is_none() {
             return;
         }
         self.differing += 1;
@@ -63,14 +88,35 @@ impl Area {
         self.compared
     }
 
+    pub fn meant(&self) -> u64 {
+        self.meant
+    }
+
     pub fn differing(&self) -> u64 {
         self.differing
     }
 
+    /// Whether nothing differs and enough was compared.
+    pub fn is_well(&self) -> bool {
+        self.differing == 0 && self.meant >= self.least
+    }
+
+    /// Prints the heads of the columns.
+    pub fn print_heads() {
+        println!(
+            "{:<44}{:>12}{:>12}{:>12}{:>12}",
+            "area", "compared", "that mean", "at least", "differing"
+        );
+    }
+
     /// Prints the counts and, where something differs, the smallest input found.
     pub fn print(&self) {
-        let (name, compared, differing) = (self.name, self.compared, self.differing);
-        println!("{name:<44}{compared:>12}{differing:>12}");
+        let (name, compared, meant) = (self.name, self.compared, self.meant);
+        let (least, differing) = (self.least, self.differing);
+        println!("{name:<44}{compared:>12}{meant:>12}{least:>12}{differing:>12}");
+        if meant < least {
+            println!("  TOO FEW comparisons that mean something");
+        }
         if let Some(smallest) = &self.smallest {
             println!("  smallest input that differs: {smallest}");
         }
@@ -81,7 +127,7 @@ impl Area {
 fn shrunk<C: Case>(case: &C) -> String {
     let began = Instant::now();
     let mut best = case.clone();
-    let differs = |smaller: &C| smaller.difference().is_some();
+    let differs = |smaller: &C| smaller.verdict().difference.is_some();
     loop {
         let in_time = |_: &C| began.elapsed() < PATIENCE;
         let Some(smaller) = best.smaller().take_while(in_time).find(differs) else {
@@ -89,7 +135,7 @@ fn shrunk<C: Case>(case: &C) -> String {
         };
         best = smaller;
     }
-    let what = best.difference().unwrap_or_default();
+    let what = best.verdict().difference.unwrap_or_default();
     format!("{}: {what}", best.show())
 }
 

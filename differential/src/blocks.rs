@@ -122,6 +122,11 @@ fn bits_at(data: &[u8], start: usize, width: usize) -> Option<u16> {
 
 /// Writes a field of up to 16 bits, which must be within the data.
 pub fn set_bits(data: &mut [u8], start: usize, width: usize, value: u16) {
+    set_bits_of(data, start, width, value.into());
+}
+
+/// Writes a field, which must be within the data, bit by bit.
+pub fn set_bits_of(data: &mut [u8], start: usize, width: usize, value: u128) {
     for i in 0..width {
         let place = start + i;
         let mask = 0x80 >> (place % 8);
@@ -188,6 +193,61 @@ pub fn any_list_1059(random: &mut Random) -> Vec<Raw> {
         shuffle(random, &mut list);
     }
     list
+}
+
+/// A satellite of a block as it stands in the data: its number, and a signal and a bias for each record.
+pub type Satellite = (u8, Vec<(u8, i16)>);
+
+/// The satellites of a block that a reader may meet: any numbers in any order, some twice, some without a bias, every
+/// signal assigned. At most so many bits.
+pub fn any_block_1059(random: &mut Random, most_bits: usize) -> Vec<Satellite> {
+    let count = match random.below(4) {
+        0 => random.within(0, 63),
+        _ => random.within(1, 8),
+    };
+    let most = random.pick(&[0, 1, 2, 6, 31]);
+    let mut satellites: Vec<Satellite> = Vec::new();
+    for _ in 0..count {
+        let number = match satellites.last() {
+            Some(last) if random.one_in(4) => last.0,
+            _ => random.below(64) as u8,
+        };
+        let records = (0..random.within(0, most)).map(|_| any_record_1059(random, number));
+        let records = records.map(|(_, signal, bias)| (signal, bias)).collect();
+        satellites.push((number, records));
+        if bits_of_1059(&satellites) > most_bits || records_of(&satellites) > CAPACITY_1059 {
+            satellites.pop();
+            break;
+        }
+    }
+    satellites
+}
+
+fn records_of(satellites: &[Satellite]) -> usize {
+    satellites.iter().map(|(_, records)| records.len()).sum()
+}
+
+/// The bits of a 1059 block of these satellites.
+pub fn bits_of_1059(satellites: &[Satellite]) -> usize {
+    6 + 11 * satellites.len() + 19 * records_of(satellites)
+}
+
+/// Puts the block into the data, field by field; it must fit.
+pub fn put_block_1059(data: &mut [u8], start: usize, satellites: &[Satellite]) {
+    let mut place = start;
+    let mut put = |width, value| {
+        set_bits(data, place, width, value);
+        place += width;
+    };
+    put(6, satellites.len() as u16);
+    for (number, records) in satellites {
+        put(6, u16::from(*number));
+        put(5, records.len() as u16);
+        for (signal, bias) in records {
+            put(5, u16::from(*signal));
+            put(14, *bias as u16 & 0x3FFF);
+        }
+    }
 }
 
 /// A record that the 1059 writers accept.

@@ -7,7 +7,7 @@ mod differences;
 mod pv;
 mod random;
 mod record;
-mod replay;
+mod recordings;
 mod rust;
 mod streams;
 
@@ -16,10 +16,11 @@ use std::path::PathBuf;
 use std::process::ExitCode;
 
 const USAGE: &str = "\
-differential compare [SEED]      compares over the whole domain; prints counts and the smallest differing input
+differential compare [SEED [PART]]
+                                 compares over the whole domain, or one part of it (checksum, frames, framing, scans,
+                                 fields, 1059, 1230, tables, metres); prints counts and the smallest differing input
 differential differences [PAGE]  runs each entry of the page, docs/DIFFERENCES.md, and compares it with the page
 differential record FILE         writes a fixed list of the Rust's answers
-differential replay FILE         replays such a list against the library
 differential bench               times the Rust, in nanoseconds a call";
 
 /// The seed of a run that names none, and of the recorded answers.
@@ -30,9 +31,13 @@ fn main() -> ExitCode {
     let arguments: Vec<String> = env::args().skip(1).collect();
     let arguments: Vec<&str> = arguments.iter().map(String::as_str).collect();
     let is_well = match arguments[..] {
-        ["compare"] => compare::run(SEED, &recordings()),
+        ["compare"] => compare::run(SEED, None, &recordings()),
         ["compare", seed] => match seed.parse() {
-            Ok(seed) => compare::run(seed, &recordings()),
+            Ok(seed) => compare::run(seed, None, &recordings()),
+            Err(_) => return usage(),
+        },
+        ["compare", seed, part] if compare::PARTS.contains(&part) => match seed.parse() {
+            Ok(seed) => compare::run(seed, Some(part), &recordings()),
             Err(_) => return usage(),
         },
         ["differences"] => differences::run(&beside("docs/DIFFERENCES.md")),
@@ -44,7 +49,6 @@ fn main() -> ExitCode {
                 false
             }
         },
-        ["replay", file] => replay::run(&PathBuf::from(file)),
         ["bench"] => {
             bench::run();
             true
@@ -70,10 +74,6 @@ fn beside(path: &str) -> PathBuf {
         .join(path)
 }
 
-/// The folder of real recordings: the one that RECORDINGS names, or the one beside the repository.
-fn recordings() -> PathBuf {
-    match env::var_os("RECORDINGS") {
-        Some(folder) => PathBuf::from(folder),
-        None => beside("../shared/recordings"),
-    }
+fn recordings() -> Vec<recordings::Recording> {
+    recordings::Recording::all(&beside(""))
 }

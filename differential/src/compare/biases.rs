@@ -1,6 +1,6 @@
 //! The bias blocks both ways, against `df_msg1059_biases.rs` and `df_msg1230_biases.rs`.
 use super::between_writes;
-use crate::area::{hex, Area, Case, Place, Smaller};
+use crate::area::{hex, Area, Case, Place, Smaller, Verdict};
 use crate::blocks::{self, Raw};
 use crate::pv::{self, Lists, Told};
 use crate::random::Random;
@@ -39,9 +39,9 @@ impl Read {
 }
 
 impl Case for Read {
-    fn difference(&self) -> Option<String> {
+    fn verdict(&self) -> Verdict {
         if !self.is_in_domain() {
-            return None;
+            return Verdict::new(false, None);
         }
         let Place { data, start } = &self.place;
         let (theirs, place) = CHECKED.read_block(self.block, data, *start);
@@ -57,10 +57,16 @@ impl Case for Read {
             }
             Err(_) => false,
         };
+        // More than a count of none, and more than data that end before the first field does.
+        let means = match &theirs {
+            Ok(records) => !records.is_empty(),
+            Err(_) => place > *start,
+        };
         let theirs = theirs.map(|records| (records.len(), records.first().copied()));
         let first = (lists.satellites[0], lists.signals[0], lists.biases[0]);
-        (!same)
-            .then(|| format!("the Rust {theirs:?} at bit {place}, ours {told:?}, first {first:?}"))
+        let difference = (!same)
+            .then(|| format!("the Rust {theirs:?} at bit {place}, ours {told:?}, first {first:?}"));
+        Verdict::new(means, difference)
     }
 
     fn smaller(&self) -> Smaller<'_, Read> {
@@ -90,20 +96,21 @@ impl Write {
 }
 
 impl Case for Write {
-    fn difference(&self) -> Option<String> {
+    fn verdict(&self) -> Verdict {
         if !self.is_in_domain() {
-            return None;
+            return Verdict::new(false, None);
         }
         let Place { data, start } = &self.place;
         let mut theirs = data.clone();
         let in_metres = blocks::in_metres(self.block, &self.list);
         let answer = CHECKED.write_block(self.block, &mut theirs, *start, &in_metres);
         let Ok(end) = answer else {
-            return Some(format!("the Rust answers {answer:?}"));
+            return Verdict::never(answer);
         };
         let mut ours = data.clone();
         let told = pv::write_block(self.block, &mut ours, *start, &blocks::lists(&self.list));
-        between_writes((Told::accepted(&[end as u64]), &theirs), (told, &ours))
+        let difference = between_writes((Told::accepted(&[end as u64]), &theirs), (told, &ours));
+        Verdict::new(!self.list.is_empty(), difference)
     }
 
     fn smaller(&self) -> Smaller<'_, Write> {
@@ -135,12 +142,13 @@ struct Areas {
 pub fn run_1059(random: &mut Random) -> Vec<Area> {
     let mut areas = Areas {
         block: Block::Msg1059,
-        reads: Area::new("1059: reading"),
-        writes: Area::new("1059: writing"),
+        reads: Area::new("1059: reading", 400_000),
+        writes: Area::new("1059: writing", 200_000),
     };
     areas.short();
     areas.every_bias(random);
     areas.lists_1059(random);
+    areas.blocks_1059(random);
     areas.every_start(random);
     vec![areas.reads, areas.writes]
 }
@@ -148,8 +156,8 @@ pub fn run_1059(random: &mut Random) -> Vec<Area> {
 pub fn run_1230(random: &mut Random) -> Vec<Area> {
     let mut areas = Areas {
         block: Block::Msg1230,
-        reads: Area::new("1230: reading"),
-        writes: Area::new("1230: writing"),
+        reads: Area::new("1230: reading", 500_000),
+        writes: Area::new("1230: writing", 400_000),
     };
     areas.short();
     areas.every_bias(random);
@@ -190,13 +198,13 @@ impl Areas {
         Some(data)
     }
 
-    /// All data of up to two bytes at every start; of 1230, whose mask has four bits, every sixteenth beyond start 0.
+    /// All data of up to two bytes at start 0, and a sixteenth of them at every other start.
     fn short(&mut self) {
         for start in 0..17 {
             self.read(&[], start);
             for number in 0..=u16::MAX {
                 let two = number.to_be_bytes();
-                if self.block == Block::Msg1059 || start == 0 || number % 16 == 0 {
+                if start == 0 || number % 16 == 0 {
                     self.read(&two, start);
                 }
                 if number < 256 {
@@ -225,9 +233,8 @@ impl Areas {
         let mut round = 0;
         while round < 30_000 {
             let list = blocks::any_list_1059(random);
-            let most = if random.one_in(4) { 500 } else { 9 };
-            let start = random.below(most);
             let bits = blocks::bits(self.block, &list);
+            let start = any_start(random, bits);
             let spare = random.below(20);
             let len = ((start + bits).div_ceil(8) + spare).min(pv::DATA);
             let Some(mut data) = self.write(list, random.bytes(len), start) else {
@@ -249,14 +256,31 @@ impl Areas {
     fn orders_1230(&mut self, random: &mut Random) {
         for round in 0..200_000 {
             let list = blocks::any_list_1230(random, round);
-            let start = random.below(30);
+            let bits = blocks::bits(self.block, &list);
+            let start = any_start(random, bits);
             let spare = random.below(4);
-            let len = (start + blocks::bits(self.block, &list)).div_ceil(8) + spare;
+            let len = ((start + bits).div_ceil(8) + spare).min(pv::DATA);
             self.write(list, random.bytes(len), start);
         }
     }
 
-    /// Reading at every start, in the longest data and far past it.
+    /// Blocks that no writer made: any satellites in any order, repeated, without a bias, at any start, whole and cut.
+    fn blocks_1059(&mut self, random: &mut Random) {
+        for round in 0..60_000 {
+            let most = if round % 20 == 0 { 8 * pv::DATA } else { 600 };
+            let satellites = blocks::any_block_1059(random, most);
+            let bits = blocks::bits_of_1059(&satellites);
+            let start = any_start(random, bits);
+            let spare = random.below(4);
+            let len = ((start + bits).div_ceil(8) + spare).min(pv::DATA);
+            let mut data = random.bytes(len);
+            blocks::put_block_1059(&mut data, start, &satellites);
+            self.read(&data, start);
+            self.read(&data[..random.below(len + 1)], start);
+        }
+    }
+
+    /// A block to read and a list to write at every start of the longest data; reading also far past it.
     fn every_start(&mut self, random: &mut Random) {
         let mut data = random.bytes(pv::DATA);
         for start in 0..=65_535 {
@@ -264,6 +288,40 @@ impl Areas {
                 random.fill(&mut data);
             }
             self.read(&data, start);
+            let room = (8 * pv::DATA).saturating_sub(start);
+            for list in self.lists_within(random, room) {
+                self.write(list, data.clone(), start);
+            }
         }
+    }
+
+    /// Two lists that fit into so many bits; none where no block does.
+    fn lists_within(&self, random: &mut Random, room: usize) -> Vec<Vec<Raw>> {
+        let one = |random: &mut Random| match self.block {
+            Block::Msg1059 => blocks::any_list_1059(random),
+            Block::Msg1230 => {
+                let mask = random.below(16);
+                blocks::any_list_1230(random, mask)
+            }
+        };
+        let mut lists = vec![one(random), one(random)];
+        for list in &mut lists {
+            list.truncate(8);
+            while blocks::bits(self.block, list) > room && !list.is_empty() {
+                list.pop();
+            }
+        }
+        lists.retain(|list| blocks::bits(self.block, list) <= room);
+        lists
+    }
+}
+
+/// A start at which so many bits fit into the longest data: often in the first bytes, else anywhere.
+fn any_start(random: &mut Random, bits: usize) -> usize {
+    let last = (8 * pv::DATA).saturating_sub(bits);
+    match random.below(3) {
+        0 => random.below(9).min(last),
+        1 => random.below(600).min(last),
+        _ => random.within(0, last),
     }
 }

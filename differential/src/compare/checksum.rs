@@ -1,5 +1,5 @@
 //! The checksum against the stand-in for `crc-any`, which is what the crate's files were built with.
-use crate::area::{hex, smaller_bytes, Area, Case, Smaller};
+use crate::area::{hex, smaller_bytes, Area, Case, Smaller, Verdict};
 use crate::random::Random;
 use crate::{pv, rust};
 
@@ -8,9 +8,11 @@ use crate::{pv, rust};
 struct Sum(Vec<u8>);
 
 impl Case for Sum {
-    fn difference(&self) -> Option<String> {
+    fn verdict(&self) -> Verdict {
         let (theirs, ours) = (rust::checksum(&self.0), pv::crc24q(&self.0));
-        (theirs != ours).then(|| format!("the Rust {theirs:06X}, ours {ours:06X}"))
+        let difference =
+            (theirs != ours).then(|| format!("the Rust {theirs:06X}, ours {ours:06X}"));
+        Verdict::new(!self.0.is_empty(), difference)
     }
 
     fn smaller(&self) -> Smaller<'_, Sum> {
@@ -22,8 +24,11 @@ impl Case for Sum {
     }
 }
 
+/// Lengths around 65,536 and far above it.
+const LONG: [usize; 5] = [65_535, 65_536, 65_537, 200_000, 1 << 20];
+
 pub fn run(random: &mut Random) -> Vec<Area> {
-    let mut area = Area::new("checksum (crc-any is a stand-in)");
+    let mut area = Area::new("checksum (crc-any is a stand-in)", 74_000);
     area.compare(&Sum(Vec::new()));
     for number in 0..=u16::MAX {
         let two = number.to_be_bytes();
@@ -36,6 +41,9 @@ pub fn run(random: &mut Random) -> Vec<Area> {
         for _ in 0..4 {
             area.compare(&Sum(random.bytes(len)));
         }
+    }
+    for len in LONG {
+        area.compare(&Sum(random.bytes(len)));
     }
     vec![area]
 }

@@ -1,5 +1,5 @@
 //! The frame check against `MessageFrame::new`.
-use crate::area::{hex, smaller_bytes, Area, Case, Smaller};
+use crate::area::{hex, smaller_bytes, Area, Case, Smaller, Verdict};
 use crate::pv::{self, Told};
 use crate::random::Random;
 use crate::rust::CHECKED;
@@ -11,13 +11,15 @@ use shapes::{Frame, Refused};
 struct Bytes(Vec<u8>);
 
 impl Case for Bytes {
-    fn difference(&self) -> Option<String> {
+    fn verdict(&self) -> Verdict {
         let theirs = CHECKED.frame(&self.0);
         let Some(expected) = expected(&theirs) else {
-            return Some(format!("the Rust answers {theirs:?}"));
+            return Verdict::never(theirs);
         };
         let ours = pv::frame_check(&self.0);
-        (ours != expected).then(|| format!("the Rust {theirs:?}, ours {ours:?}"))
+        let difference = (ours != expected).then(|| format!("the Rust {theirs:?}, ours {ours:?}"));
+        let has_header = self.0.len() >= 6 && self.0[0] == PREAMBLE;
+        Verdict::new(has_header, difference)
     }
 
     fn smaller(&self) -> Smaller<'_, Bytes> {
@@ -54,16 +56,17 @@ fn expected(theirs: &Result<Frame, Refused>) -> Option<Told> {
 pub fn run(random: &mut Random) -> Vec<Area> {
     vec![
         short(random),
-        empty_frames(),
+        empty_frames(random),
         headers(random),
         numbers(random),
         every_length(random),
+        long(random),
     ]
 }
 
 /// All bytes up to two, and any first two bytes in up to nine.
 fn short(random: &mut Random) -> Area {
-    let mut area = Area::new("frame check: short bytes");
+    let mut area = Area::new("frame check: short bytes", 1_000);
     area.compare(&Bytes(Vec::new()));
     for first in 0..=255 {
         area.compare(&Bytes(vec![first]));
@@ -78,20 +81,28 @@ fn short(random: &mut Random) -> Area {
     area
 }
 
-/// The frame without data under each of the 2^24 checksums.
-fn empty_frames() -> Area {
-    let mut area = Area::new("frame check: no data, every checksum");
-    let mut case = Bytes(vec![PREAMBLE, 0, 0, 0, 0, 0]);
-    for sum in 0..1u32 << 24 {
+/// The frame without data under its own checksum, under all that differ from it in one or two bits, and under others.
+fn empty_frames(random: &mut Random) -> Area {
+    let mut area = Area::new("frame check: no data, other checksums", 20_000);
+    let mut case = Bytes(framed(&[], 0));
+    let own = u32::from_be_bytes([0, case.0[3], case.0[4], case.0[5]]);
+    let mut compare = |sum: u32| {
         case.0[3..].copy_from_slice(&sum.to_be_bytes()[1..]);
         area.compare(&case);
+    };
+    for (first, second) in (0..24).flat_map(|first| (0..24).map(move |second| (first, second))) {
+        compare(own ^ 1 << first ^ 1 << second);
+        compare(own ^ 1 << first);
+    }
+    for _ in 0..20_000 {
+        compare(random.next() as u32 >> 8);
     }
     area
 }
 
 /// Every second and third byte, in six bytes, in a whole frame, in one cut short by a byte and in a damaged one.
 fn headers(random: &mut Random) -> Area {
-    let mut area = Area::new("frame check: every header");
+    let mut area = Area::new("frame check: every header", 260_000);
     for header in 0..=u16::MAX {
         let [reserved, low] = header.to_be_bytes();
         let six = random.bytes(3);
@@ -107,7 +118,7 @@ fn headers(random: &mut Random) -> Area {
 
 /// Every two data bytes, with bytes behind the frame and without, and every single data byte.
 fn numbers(random: &mut Random) -> Area {
-    let mut area = Area::new("frame check: every message number");
+    let mut area = Area::new("frame check: every message number", 260_000);
     for number in 0..=u16::MAX {
         let data = number.to_be_bytes();
         for data in [&data[..], &data[1..]] {
@@ -122,7 +133,7 @@ fn numbers(random: &mut Random) -> Area {
 
 /// Every length of data: as it is, cut, followed by more, and damaged.
 fn every_length(random: &mut Random) -> Area {
-    let mut area = Area::new("frame check: every length, damaged copies");
+    let mut area = Area::new("frame check: every length, damaged copies", 140_000);
     for len in 0..1_024 {
         for _ in 0..8 {
             let frame = any_frame(random, len);
@@ -136,6 +147,22 @@ fn every_length(random: &mut Random) -> Area {
                 area.compare(&Bytes(damaged(random, &followed)));
             }
             area.compare(&Bytes(followed));
+        }
+    }
+    area
+}
+
+/// Good, cut and damaged frames at the start of far more bytes than a frame, a piece or a data area has.
+fn long(random: &mut Random) -> Area {
+    let mut area = Area::new("frame check: over 65,536 bytes", 100);
+    for total in [65_535, 65_536, 65_537, 70_000, 200_000, 1 << 20] {
+        for len in [0, 1, 2, 255, 256, 1_022, 1_023] {
+            let frame = any_frame(random, len);
+            let damage = damaged(random, &frame);
+            for first in [frame, damage, vec![PREAMBLE, 0xFF, 0xFF], vec![0; 6]] {
+                let behind = random.bytes(total - first.len());
+                area.compare(&Bytes([first, behind].concat()));
+            }
         }
     }
     area

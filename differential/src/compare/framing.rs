@@ -1,5 +1,5 @@
 //! Framing against `MessageBuilder`, over data bytes that begin with a message number that the builder was given.
-use crate::area::{hex, smaller_bytes, Area, Case, Smaller};
+use crate::area::{hex, smaller_bytes, Area, Case, Smaller, Verdict};
 use crate::pv::{self, Told};
 use crate::random::Random;
 use crate::rust::CHECKED;
@@ -23,10 +23,10 @@ impl Data {
 }
 
 impl Case for Data {
-    fn difference(&self) -> Option<String> {
+    fn verdict(&self) -> Verdict {
         let theirs = CHECKED.build_message(self.number, self.half & 0xF, &self.bytes);
         let Ok(theirs) = theirs else {
-            return Some(format!("the Rust answers {theirs:?}"));
+            return Verdict::never(theirs);
         };
         let mut out = vec![0xA5; theirs.len() + 9];
         let told = pv::frame_write(&self.data(), &mut out);
@@ -34,7 +34,9 @@ impl Case for Data {
         let same = told == Told::accepted(&[theirs.len() as u64])
             && written == theirs
             && behind.iter().all(|byte| *byte == 0xA5);
-        (!same).then(|| format!("the Rust {}, ours {} {told:?}", hex(&theirs), hex(&out)))
+        let difference =
+            (!same).then(|| format!("the Rust {}, ours {} {told:?}", hex(&theirs), hex(&out)));
+        Verdict::new(true, difference)
     }
 
     fn smaller(&self) -> Smaller<'_, Data> {
@@ -51,7 +53,7 @@ impl Case for Data {
 }
 
 pub fn run(random: &mut Random) -> Vec<Area> {
-    let mut area = Area::new("framing: data of 1059 and 1230, every length");
+    let mut area = Area::new("framing: data of 1059 and 1230, every length", 8_000);
     for len in 0..=pv::DATA - 2 {
         for number in NUMBERS {
             for _ in 0..4 {

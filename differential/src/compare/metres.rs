@@ -1,5 +1,5 @@
 //! The reading in metres, in bits, over all raw numbers, against what the crate's block readers give.
-use crate::area::{Area, Case};
+use crate::area::{Area, Case, Verdict};
 use crate::{blocks, pv};
 use shapes::Block;
 
@@ -12,10 +12,11 @@ struct Metres {
 }
 
 impl Case for Metres {
-    fn difference(&self) -> Option<String> {
+    fn verdict(&self) -> Verdict {
         let ours = pv::metres(self.block, self.bias);
         let same = self.theirs.map(f32::to_bits) == Some(ours.to_bits());
-        (!same).then(|| format!("the Rust {:?}, ours {ours:?}", self.theirs))
+        let difference = (!same).then(|| format!("the Rust {:?}, ours {ours:?}", self.theirs));
+        Verdict::new(true, difference)
     }
 
     fn show(&self) -> String {
@@ -24,9 +25,9 @@ impl Case for Metres {
 }
 
 pub fn run() -> Vec<Area> {
-    let mut area_1059 = Area::new("metres: 1059, all 14-bit numbers");
-    let mut area_1230 = Area::new("metres: 1230, all 16-bit numbers");
-    let mut beyond = Area::new("metres: 1059, the other 16-bit numbers");
+    let mut area_1059 = Area::new("metres: 1059, all 14-bit numbers", 1 << 14);
+    let mut area_1230 = Area::new("metres: 1230, all 16-bit numbers", 1 << 16);
+    let mut beyond = Area::new("metres: 1059, the other 16-bit numbers", 49_152);
     let read = |block, bias| Metres {
         block,
         bias,

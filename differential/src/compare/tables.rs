@@ -1,5 +1,5 @@
 //! The seven signal tables both ways, and `Ord`, against `msm_mappings.rs`.
-use crate::area::{Area, Case};
+use crate::area::{Area, Case, Verdict};
 use crate::pv::{self, Told};
 use crate::random::Random;
 use crate::rust::{self, CHECKED};
@@ -22,14 +22,15 @@ struct SignalOf {
 }
 
 impl Case for SignalOf {
-    fn difference(&self) -> Option<String> {
+    fn verdict(&self) -> Verdict {
         let theirs = rust::signal_of(self.system, self.number);
         let expected = match theirs {
             Some((band, letter)) => Told::accepted(&[1, band as u64, letter as u64]),
             None => Told::accepted(&[0]),
         };
         let ours = pv::signal_of(self.system, self.number as u32);
-        (ours != expected).then(|| format!("the Rust {theirs:?}, ours {ours:?}"))
+        let difference = (ours != expected).then(|| format!("the Rust {theirs:?}, ours {ours:?}"));
+        Verdict::new(true, difference)
     }
 
     fn show(&self) -> String {
@@ -45,7 +46,7 @@ struct NumberOf {
 }
 
 impl Case for NumberOf {
-    fn difference(&self) -> Option<String> {
+    fn verdict(&self) -> Verdict {
         let theirs = rust::number_of(self.system, self.signal.0, self.signal.1);
         let expected = match theirs {
             Some(number) => Told::accepted(&[1, number as u64]),
@@ -53,7 +54,8 @@ impl Case for NumberOf {
         };
         let (band, letter) = numbers(self.signal);
         let ours = pv::number_of(self.system, band, letter);
-        (ours != expected).then(|| format!("the Rust {theirs:?}, ours {ours:?}"))
+        let difference = (ours != expected).then(|| format!("the Rust {theirs:?}, ours {ours:?}"));
+        Verdict::new(true, difference)
     }
 
     fn show(&self) -> String {
@@ -70,7 +72,7 @@ struct Order {
 }
 
 impl Case for Order {
-    fn difference(&self) -> Option<String> {
+    fn verdict(&self) -> Verdict {
         let (theirs, _) = CHECKED.order(self.system, self.a, self.b);
         let number = match theirs {
             Ordering::Less => -1i64,
@@ -79,7 +81,8 @@ impl Case for Order {
         };
         let ours = pv::signal_order(self.system, numbers(self.a), numbers(self.b));
         let same = ours == Told::accepted(&[number as u64]);
-        (!same).then(|| format!("the Rust {theirs:?}, ours {ours:?}"))
+        let difference = (!same).then(|| format!("the Rust {theirs:?}, ours {ours:?}"));
+        Verdict::new(true, difference)
     }
 
     fn show(&self) -> String {
@@ -94,7 +97,7 @@ pub fn run(random: &mut Random) -> Vec<Area> {
 
 /// Every number, every band and letter of a byte, and letters beyond, above all those that end as an assigned one does.
 fn both_ways(random: &mut Random) -> Area {
-    let mut area = Area::new("tables: both ways");
+    let mut area = Area::new("tables: both ways", 470_000);
     for system in 0..SYSTEMS.len() as u32 {
         for number in 0..=255 {
             area.compare(&SignalOf { system, number });
@@ -129,7 +132,7 @@ fn any_letter(random: &mut Random) -> char {
 
 /// All pairs of signals with a band up to 10 and a letter of a table or next to one, and random pairs.
 fn order(random: &mut Random) -> Area {
-    let mut area = Area::new("tables: Ord");
+    let mut area = Area::new("tables: Ord", 360_000);
     let letters = "@ABCDILPQSWXYZa";
     let bands = (0..=10).chain([255]);
     let signals: Vec<Signal> = bands

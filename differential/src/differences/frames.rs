@@ -2,7 +2,7 @@
 use super::{refusal, Entry};
 use crate::area::hex;
 use crate::pv;
-use crate::rust::CHECKED;
+use crate::rust::Build;
 use crate::streams::framed;
 use shapes::{Frame, Refused};
 
@@ -28,35 +28,40 @@ fn our_number(bytes: &[u8]) -> String {
 }
 
 fn number_from_behind() -> Entry {
-    let mut entry = Entry::new("F1", "A message number out of the bytes behind a frame");
+    let mut entry = Entry::new("F1");
     let empty = [framed(&[], 0), vec![0, 0]].concat();
     let one = [framed(&[0x43], 0), vec![0]].concat();
-    for (bytes, said) in [(empty, "number 1150"), (one, "number 1073")] {
-        entry.builds(&hex(&bytes), said, |build| number(build.frame(&bytes)));
-        entry.ours(&hex(&bytes), "no number", our_number(&bytes));
+    for bytes in [empty, one] {
+        entry.builds(&hex(&bytes), |build| number(build.frame(&bytes)));
+        entry.ours(&hex(&bytes), our_number(&bytes));
     }
     entry
 }
 
+fn our_frame(data: &[u8]) -> String {
+    let mut out = vec![0; data.len() + 6];
+    let told = pv::frame_write(data, &mut out);
+    refusal(&told).unwrap_or(hex(&out))
+}
+
 fn framing() -> Entry {
-    let mut entry = Entry::new("F2", "Framing takes data bytes");
-    let built = CHECKED
-        .build_message(0, 0, &[])
-        .map_or_else(str::to_string, |frame| hex(&frame));
-    entry.says(
-        "the Rust",
-        "nothing to frame",
-        "EncodingNotSupported",
-        built,
-    );
-    let mut out = [0; 6];
-    pv::frame_write(&[], &mut out);
-    entry.ours("nothing to frame", "D3 00 00 47 EA 4B", hex(&out));
+    let mut entry = Entry::new("F2");
+    let asked = "nothing to frame";
+    let built = |build: &Build, number, bytes: &[u8]| {
+        let built = build.build_message(number, 0, bytes);
+        built.map_or_else(str::to_string, |frame| hex(&frame))
+    };
+    entry.builds(asked, |build| built(build, 0, &[]));
+    entry.ours(asked, our_frame(&[]));
+    let asked = "1,024 bytes, 42 30 and zeros";
+    let bytes = [0; pv::DATA - 1];
+    entry.builds(asked, |build| built(build, 1059, &bytes));
+    entry.ours(asked, our_frame(&[&[0x42, 0x30], &bytes[..]].concat()));
     entry
 }
 
-fn scanned(bytes: &[u8]) -> String {
-    match CHECKED.scan(bytes) {
+fn scanned(build: &Build, bytes: &[u8]) -> String {
+    match build.scan(bytes) {
         Ok(scanned) => {
             let (frames, consumed) = (scanned.frames.len(), scanned.consumed);
             format!("{frames} frames, {consumed} bytes consumed")
@@ -66,17 +71,14 @@ fn scanned(bytes: &[u8]) -> String {
 }
 
 fn pieces() -> Entry {
-    let mut entry = Entry::new("F3", "Scanning in pieces");
+    let mut entry = Entry::new("F3");
     let frame = framed(&[], 0);
     let (first, second) = frame.split_at(3);
     let mut held = [0; pv::HELD];
     let mut out = [0; pv::HELD];
     let mut count = 0;
-    for (piece, theirs, ours) in [
-        (first, "0 frames, 0 bytes consumed", "More, 3 bytes held"),
-        (second, "0 frames, 3 bytes consumed", "a frame of 6 bytes"),
-    ] {
-        entry.says("the Rust", &hex(piece), theirs, scanned(piece));
+    for piece in [first, second] {
+        entry.builds(&hex(piece), |build| scanned(build, piece));
         let [is_frame, _, _, now, len, ..] = pv::feed(&mut held, count, piece, &mut out).extra;
         count = now as usize;
         let is = if is_frame == 1 {
@@ -84,36 +86,28 @@ fn pieces() -> Entry {
         } else {
             format!("More, {now} bytes held")
         };
-        entry.ours(&hex(piece), ours, is);
+        entry.ours(&hex(piece), is);
     }
     entry
 }
 
 fn refusals() -> Entry {
-    let mut entry = Entry::new("F4", "Refusals of framing and of the scanner");
+    let mut entry = Entry::new("F4");
     let mut held = [0; pv::HELD];
     let mut out = [0; pv::HELD];
     let mut fed = |count, piece: usize, room: usize| {
         let told = pv::feed(&mut held, count, &vec![0; piece], &mut out[..room]);
         refusal(&told).unwrap_or_default()
     };
-    let state = fed(1_030, 0, pv::HELD);
-    entry.ours("a held count of 1,030", "State", state);
-    let size = fed(0, pv::PIECE + 1, pv::HELD);
-    entry.ours("a piece of 65,537 bytes", "Size", size);
-    let room = fed(0, 0, pv::HELD - 1);
-    entry.ours(
-        "an output of 1,028 bytes for the scanner",
-        "Room, carrying 1029",
-        room,
-    );
+    entry.ours("a held count of 1,030", fed(1_030, 0, pv::HELD));
+    entry.ours("a piece of 65,537 bytes", fed(0, pv::PIECE + 1, pv::HELD));
+    let asked = "an output of 1,028 bytes for the scanner";
+    entry.ours(asked, fed(0, 0, pv::HELD - 1));
     let mut framed = |data: usize, room: usize| {
         let told = pv::frame_write(&vec![0; data], &mut out[..room]);
         refusal(&told).unwrap_or_default()
     };
-    let size = framed(pv::DATA + 1, pv::HELD);
-    entry.ours("1,024 data bytes to frame", "Size", size);
-    let room = framed(0, 5);
-    entry.ours("an output of 5 bytes for no data", "Room, carrying 6", room);
+    entry.ours("1,024 data bytes to frame", framed(pv::DATA + 1, pv::HELD));
+    entry.ours("an output of 5 bytes for no data", framed(0, 5));
     entry
 }

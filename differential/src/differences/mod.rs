@@ -1,76 +1,109 @@
-//! Runs each entry of DIFFERENCES.md: what the Rust answers, what ours answers, and whether the page says so.
+//! Runs each entry of DIFFERENCES.md and holds the page's tables to it, row by row and cell by cell.
 mod biases;
 mod fields;
 mod frames;
+mod page;
 mod tables;
 
 use crate::pv::{self, Told};
 use crate::rust::{Build, BUILDS};
-use std::collections::BTreeSet;
+use page::Section;
 use std::path::Path;
 
-/// One entry: its mark in the page, and what each side was asked and answered.
-pub struct Entry {
-    mark: &'static str,
-    title: &'static str,
-    lines: Vec<Line>,
+/// Who answers: a build of the Rust by its place in `BUILDS`, or ours.
+#[derive(Clone, Copy, Debug, PartialEq, Eq)]
+pub enum Who {
+    Build(usize),
+    Ours,
 }
 
-/// One answer: who gave it to what, what the page says and what it is.
-struct Line {
-    who: &'static str,
+impl Who {
+    fn name(self) -> &'static str {
+        match self {
+            Who::Build(place) => BUILDS[place].name,
+            Who::Ours => "Peerivolt",
+        }
+    }
+}
+
+/// A question, and what was answered to it.
+struct Row {
     asked: String,
-    said: String,
-    is: String,
+    answers: Vec<(Who, String)>,
+}
+
+/// One entry: its mark in the page, and its rows.
+pub struct Entry {
+    mark: &'static str,
+    rows: Vec<Row>,
 }
 
 impl Entry {
-    fn new(mark: &'static str, title: &'static str) -> Entry {
-        let lines = Vec::new();
-        Entry { mark, title, lines }
+    fn new(mark: &'static str) -> Entry {
+        let rows = Vec::new();
+        Entry { mark, rows }
     }
 
-    /// Adds an answer and what the page says of it.
-    fn says(&mut self, who: &'static str, asked: &str, said: &str, is: String) {
-        self.lines.push(Line {
-            who,
-            asked: asked.to_string(),
-            said: said.to_string(),
-            is,
-        });
+    /// Adds an answer to the question, in its row if it was the last one asked.
+    fn answer(&mut self, asked: &str, who: Who, is: String) {
+        if self.rows.last().is_none_or(|row| row.asked != asked) {
+            self.rows.push(Row {
+                asked: asked.to_string(),
+                answers: Vec::new(),
+            });
+        }
+        let last = self.rows.last_mut().expect("a row");
+        last.answers.push((who, is));
     }
 
-    /// Adds what both builds answer, of which the page says the same.
-    fn builds(&mut self, asked: &str, said: &str, answer: impl Fn(&Build) -> String) {
-        for build in &BUILDS {
-            self.says(build.name, asked, said, answer(build));
+    /// Adds what both builds answer.
+    fn builds(&mut self, asked: &str, answer: impl Fn(&Build) -> String) {
+        for (place, build) in BUILDS.iter().enumerate() {
+            self.answer(asked, Who::Build(place), answer(build));
         }
     }
 
     /// Adds our answer.
-    fn ours(&mut self, asked: &str, said: &str, is: String) {
-        self.says("ours", asked, said, is);
-    }
-
-    fn is_as_said(&self) -> bool {
-        self.lines.iter().all(|line| line.said == line.is)
+    fn ours(&mut self, asked: &str, is: String) {
+        self.answer(asked, Who::Ours, is);
     }
 
     fn print(&self) {
-        println!("{} {}", self.mark, self.title);
-        for line in &self.lines {
-            println!("  {}; {}: {}", line.asked, line.who, line.is);
-            if line.said != line.is {
-                println!("    NOT AS SAID, which is: {}", line.said);
+        println!("{}", self.mark);
+        for row in &self.rows {
+            for (who, is) in &row.answers {
+                println!("  {}; {}: {is}", row.asked, who.name());
             }
         }
     }
 
-    /// The answers that the page's section does not hold word for word.
-    fn missing_in(&self, section: &str) -> Vec<String> {
-        let absent = |text: &&String| !section.contains(text.as_str());
-        let said = self.lines.iter().flat_map(|line| [&line.asked, &line.said]);
-        said.filter(absent).cloned().collect()
+    /// What the page's section says otherwise: another question in a row, another answer in a cell, a cell or a row too
+    /// many or too few.
+    fn otherwise(&self, section: &Section) -> Vec<String> {
+        let mut wrong = Vec::new();
+        if self.rows.len() != section.rows.len() {
+            let (run, said) = (self.rows.len(), section.rows.len());
+            wrong.push(format!("{said} rows, where {run} are run"));
+        }
+        for (row, said) in self.rows.iter().zip(&section.rows) {
+            if row.asked != said.asked {
+                wrong.push(format!("asks {:?}, not {:?}", said.asked, row.asked));
+                continue;
+            }
+            for (who, is) in &row.answers {
+                let says = said.of(*who).unwrap_or("nothing");
+                if says != is {
+                    let (asked, who) = (&row.asked, who.name());
+                    wrong.push(format!("{asked}; {who}: says {says}, where it is {is}"));
+                }
+            }
+            let answered = |who: &Who| row.answers.iter().any(|(answered, _)| answered == who);
+            for who in said.speakers().iter().filter(|who| !answered(who)) {
+                let (asked, who) = (&row.asked, who.name());
+                wrong.push(format!("{asked}; {who}: has an answer that is not run"));
+            }
+        }
+        wrong
     }
 }
 
@@ -87,54 +120,44 @@ fn entries() -> Vec<Entry> {
     .collect()
 }
 
-/// Runs all entries and compares them with the page. Says whether all is as said.
+/// Runs all entries and holds the page to them. Says whether all is as the page says.
 pub fn run(page: &Path) -> bool {
     let entries = entries();
     entries.iter().for_each(Entry::print);
-    let not_as_said = entries.iter().filter(|entry| !entry.is_as_said()).count();
-    println!("{} entries, {not_as_said} not as said", entries.len());
-    let in_step = match std::fs::read_to_string(page) {
-        Ok(text) => is_in_step(&entries, &text),
+    let text = match std::fs::read_to_string(page) {
+        Ok(text) => text,
         Err(why) => {
             println!("{}: {why}", page.display());
-            false
+            return false;
         }
     };
-    not_as_said == 0 && in_step
+    let wrong = wrong(&entries, &page::sections(&text));
+    for (mark, what) in &wrong {
+        println!("NOT AS SAID, {mark}: {what}");
+    }
+    let rows: usize = entries.iter().map(|entry| entry.rows.len()).sum();
+    let (count, wrong) = (entries.len(), wrong.len());
+    println!("{count} entries, {rows} rows, {wrong} not as said");
+    wrong == 0
 }
 
-/// The sections of the page by their marks: a heading `### B1. Title` has the mark B1.
-fn sections(page: &str) -> Vec<(&str, String)> {
-    let parts = page.split("\n### ").skip(1);
-    let words = |text: &str| text.split_whitespace().collect::<Vec<_>>().join(" ");
-    let section = |part| {
-        let (mark, rest) = str::split_once(part, ". ")?;
-        Some((mark, words(rest)))
-    };
-    parts.filter_map(section).collect()
-}
-
-/// Whether the page has a section for each entry and no other, and holds each question and answer.
-fn is_in_step(entries: &[Entry], page: &str) -> bool {
-    let sections = sections(page);
-    let marks: BTreeSet<&str> = entries.iter().map(|entry| entry.mark).collect();
-    let mut in_step = true;
-    for (mark, _) in sections.iter().filter(|(mark, _)| !marks.contains(mark)) {
-        println!("the page's entry {mark} is not run");
-        in_step = false;
+/// What is wrong with the page, and where: entries in another order or number, and what each says otherwise.
+fn wrong(entries: &[Entry], sections: &[Section]) -> Vec<(String, String)> {
+    let run: Vec<&str> = entries.iter().map(|entry| entry.mark).collect();
+    let said: Vec<&str> = sections
+        .iter()
+        .map(|section| section.mark.as_str())
+        .collect();
+    if run != said {
+        let what = format!("has the entries {said:?}, where {run:?} are run");
+        return vec![("the page".to_string(), what)];
     }
-    for entry in entries {
-        let Some((_, section)) = sections.iter().find(|(mark, _)| *mark == entry.mark) else {
-            println!("the page has no entry {}", entry.mark);
-            in_step = false;
-            continue;
-        };
-        for text in entry.missing_in(section) {
-            println!("the page's entry {} does not say: {text}", entry.mark);
-            in_step = false;
-        }
+    let mut wrong = Vec::new();
+    for (entry, section) in entries.iter().zip(sections) {
+        let otherwise = entry.otherwise(section).into_iter();
+        wrong.extend(otherwise.map(|what| (entry.mark.to_string(), what)));
     }
-    in_step
+    wrong
 }
 
 /// A refusal in words.

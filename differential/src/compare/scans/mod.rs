@@ -7,25 +7,21 @@ mod whole;
 use crate::area::Area;
 use crate::pv;
 use crate::random::Random;
+use crate::recordings::Recording;
 use crate::streams::{any_frame, any_stream, PREAMBLE};
 use calls::Call;
 use pieces::Pieces;
-use std::path::Path;
 use whole::Stream;
 
-pub fn run(random: &mut Random, recordings: &Path) -> Vec<Area> {
-    let mut whole = Area::new("scan: MsgFrameIter and next_msg_frame");
-    let mut pieces = Area::new("scan: feeding in pieces");
-    let mut calls = Area::new("scan: single calls of the scanner");
+pub fn run(random: &mut Random, recordings: &[Recording]) -> Vec<Area> {
+    let mut whole = Area::new("scan: MsgFrameIter and next_msg_frame", 3_000);
+    let mut pieces = Area::new("scan: feeding in pieces", 20_000);
+    let mut calls = Area::new("scan: single calls of the scanner", 100_000);
     short(&mut whole, &mut pieces, &mut calls);
     mixed(random, &mut whole, &mut pieces);
-    around_limits(random, &mut pieces, &mut calls);
+    around_limits(random, &mut whole, &mut pieces, &mut calls);
     any_calls(random, &mut calls);
-    let recorded = recorded(recordings, &mut whole, &mut pieces);
-    if recorded == 0 {
-        println!("  (no recordings in {})", recordings.display());
-    }
-    vec![whole, pieces, calls]
+    vec![whole, pieces, calls, recorded(recordings)]
 }
 
 /// Compares on the stream, fed in pieces of each of the lists of lengths.
@@ -72,7 +68,7 @@ fn mixed(random: &mut Random, whole: &mut Area, pieces: &mut Area) {
 }
 
 /// The longest frames, false beginnings before them, and pieces of the greatest length.
-fn around_limits(random: &mut Random, pieces: &mut Area, calls: &mut Area) {
+fn around_limits(random: &mut Random, whole: &mut Area, pieces: &mut Area, calls: &mut Area) {
     for len in 1_015..=pv::DATA {
         for before in 0..8 {
             let false_start = [PREAMBLE, 3, 0xFF, PREAMBLE, 0, 7, 0, 0];
@@ -87,6 +83,7 @@ fn around_limits(random: &mut Random, pieces: &mut Area, calls: &mut Area) {
     }
     for _ in 0..20 {
         let bytes = any_stream(random, 2 * pv::PIECE);
+        whole.compare(&Stream(bytes.clone()));
         in_pieces(pieces, bytes, [vec![pv::PIECE, pv::PIECE - 1]]);
     }
 }
@@ -107,27 +104,17 @@ fn any_calls(random: &mut Random, calls: &mut Area) {
     }
 }
 
-/// The real recordings, where they are there. Gives their number.
-fn recorded(folder: &Path, whole: &mut Area, pieces: &mut Area) -> usize {
-    let Ok(files) = std::fs::read_dir(folder) else {
-        return 0;
-    };
-    let is_stream = |name: &Path| {
-        let end = name.extension().and_then(|end| end.to_str());
-        matches!(end, Some("bin" | "rtcm3"))
-    };
-    let mut count = 0;
-    for path in files.flatten().map(|file| file.path()) {
-        if !is_stream(&path) {
-            continue;
-        }
-        let Ok(bytes) = std::fs::read(&path) else {
+/// The real recordings, each whole and in pieces. A missing one leaves the area below its least number.
+fn recorded(recordings: &[Recording]) -> Area {
+    let mut area = Area::new("scan: recordings", 4 * Recording::NAMES.len() as u64);
+    for recording in recordings {
+        let Some(bytes) = recording.bytes() else {
+            println!("  the recording {} is missing", recording.name);
             continue;
         };
-        count += 1;
-        whole.compare(&Stream(bytes.clone()));
+        area.compare(&Stream(bytes.clone()));
         let lens = [vec![1], vec![7, 100, 1_460], vec![pv::PIECE]];
-        in_pieces(pieces, bytes, lens);
+        in_pieces(&mut area, bytes, lens);
     }
-    count
+    area
 }

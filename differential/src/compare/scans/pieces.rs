@@ -1,6 +1,6 @@
 //! A whole stream, fed in pieces.
 use super::scanner::Scanner;
-use crate::area::{hex, smaller_bytes, Case, Smaller};
+use crate::area::{hex, smaller_bytes, Case, Smaller, Verdict};
 use crate::rust::CHECKED;
 use shapes::Refused;
 
@@ -80,16 +80,19 @@ impl Pieces {
 }
 
 impl Case for Pieces {
-    fn difference(&self) -> Option<String> {
+    fn verdict(&self) -> Verdict {
         let theirs = self.expected();
         let ours = self.fed();
         let Ok(theirs) = theirs else {
-            return Some(format!("the Rust answers {theirs:?}"));
+            return Verdict::never(theirs);
         };
         let Some(ours) = ours else {
-            return Some("ours refused, or did not take the whole piece".to_string());
+            let what = "ours refused, or did not take the whole piece";
+            return Verdict::new(true, Some(what.to_string()));
         };
-        (theirs != ours).then(|| format!("the Rust {}, ours {}", theirs.show(), ours.show()))
+        let difference =
+            (theirs != ours).then(|| format!("the Rust {}, ours {}", theirs.show(), ours.show()));
+        Verdict::new(!theirs.frames.is_empty(), difference)
     }
 
     fn smaller(&self) -> Smaller<'_, Pieces> {

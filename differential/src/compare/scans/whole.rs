@@ -1,5 +1,5 @@
 //! A whole stream, scanned by repeated frame checks.
-use crate::area::{hex, smaller_bytes, Case, Smaller};
+use crate::area::{hex, smaller_bytes, Case, Smaller, Verdict};
 use crate::pv;
 use crate::rust::CHECKED;
 use crate::streams::PREAMBLE;
@@ -45,12 +45,13 @@ impl Stream {
 }
 
 impl Case for Stream {
-    fn difference(&self) -> Option<String> {
+    fn verdict(&self) -> Verdict {
         let theirs = CHECKED.scan(&self.0);
         let ours = self.scanned();
         if theirs.as_ref() != Ok(&ours) {
-            return Some(format!("the Rust {theirs:?}, ours {ours:?}"));
+            return Verdict::new(true, Some(format!("the Rust {theirs:?}, ours {ours:?}")));
         }
+        let has_frame = !ours.frames.is_empty();
         let first = self.first();
         let expected = match ours.frames.first() {
             Some((place, len)) => Scanned {
@@ -60,7 +61,8 @@ impl Case for Stream {
             None => ours,
         };
         let same = first.as_ref() == Ok(&expected);
-        (!same).then(|| format!("next_msg_frame {first:?}, ours {expected:?}"))
+        let difference = (!same).then(|| format!("next_msg_frame {first:?}, ours {expected:?}"));
+        Verdict::new(has_frame, difference)
     }
 
     fn smaller(&self) -> Smaller<'_, Stream> {
