@@ -14,7 +14,6 @@ use Rattle.messages.specs.Records.{Counted}
 use Rattle.messages.specs.Read1059.{Read1059, outcome1059}
 use Rattle.messages.specs.Read1230.{Read1230, outcome1230}
 use Rattle.peerivolt.specs.Extra.{Numbers, numbers, inNumbers, returned, answered, reads}
-use Rattle.peerivolt.specs.Fields.{endValues, writes}
 use Rattle.peerivolt.specs.Scanner.{fedValues, feeds}
 use Rattle.peerivolt.specs.Biases.{countedValues, reads1059, reads1230}
 
@@ -24,46 +23,34 @@ tells values told e = ap (λ x. inNumbers values (told x)) (sym e)
 
 -- ---- any call
 
--- the extra area has another size
-not-sized : {A Areas : Type 0} (values : A → List ℕ) (e : List ℕ) (before : Areas) (told : Told A) (after : Areas)
-    → (length e ≡ 8 → ⊥) → returned 9 e before ≡ answered values e before told after
-not-sized values e before told after n = simp (ne-eqb (length e) 8 n)
+module _ {A Areas : Type 0} (values : A → List ℕ) (e : List ℕ) (before : Areas) where
+  -- the extra area has another size
+  pub not-sized : (w : Outcome A Areas) → (length e ≡ 8 → ⊥) → returned 9 e before ≡ answered values e before w
+  unfolding answered
+  not-sized w n = simp (ne-eqb (length e) 8 n)
 
--- the extra area has its size, and was filled with what the outcome tells: the outcome v of the code, which is w by its statement
-module _ {W A Areas : Type 0} (values : A → List ℕ) (told : W → Told A) (after : W → Areas) where
-  sized : (e : List ℕ) (before : Areas) {v w : W} {r : ℕ} {e' : List ℕ}
-      → length e ≡ 8 → numbers r e' ≡ inNumbers values (told v) → v ≡ w → returned r e' (after v) ≡ answered values e before (told w) (after w)
-  sized e before {v} {w} h q o =
-      ap (λ (n : Numbers). record { answer = n; areas = after v }) q
-      ∙ ap (λ (u : W). record { answer = inNumbers values (told u); areas = after u }) o
+  -- the extra area has its size, and was filled with what the code answers: its outcome is w by its statement
+  pub sized : {told : Told A} {after : Areas} {w : Outcome A Areas} {r : ℕ} {e' : List ℕ}
+      → length e ≡ 8 → numbers r e' ≡ inNumbers values told → outcome told after ≡ w → returned r e' after ≡ answered values e before w
+  unfolding answered
+  sized {told} {after} h q o =
+      ap (λ (n : Numbers). record { answer = n; areas = after }) q
+      ∙ ap (λ (u : Outcome A Areas). record { answer = inNumbers values (u .answer); areas = u .areas }) o
       ∙ simp (eq-eqb (length e) 8 h)
 
 -- ---- a call that is lent the extra area alone
 
 pub not-read : {A : Type 0} (values : A → List ℕ) (d : Told A) (e : List ℕ) → (length e ≡ 8 → ⊥) → returned 9 e tt ≡ reads values d e
-unfolding reads
-not-read values d e n = not-sized values e tt d tt n
+not-read values d e n = not-sized values e tt (outcome d tt) n
 
 pub read : {A : Type 0} (values : A → List ℕ) {told d : Told A} (e : List ℕ) {r : ℕ} {e' : List ℕ}
     → length e ≡ 8 → numbers r e' ≡ inNumbers values told → told ≡ d → returned r e' tt ≡ reads values d e
-unfolding reads
-read values e h q o = sized values (λ d. d) (λ d. tt) e tt h q o
+read values e h q o = sized values e tt h q (ap (λ d. outcome d tt) o)
 
 -- and that refuses nothing
 pub found : {A : Type 0} (values : A → List ℕ) {a d : A} (e : List ℕ) {r : ℕ} {e' : List ℕ}
     → length e ≡ 8 → numbers r e' ≡ inNumbers values (Accepted a) → a ≡ d → returned r e' tt ≡ reads values (Accepted d) e
 found values e h q o = read values e h q (ap Accepted o)
-
--- ---- a call that writes bytes
-
-pub not-written : (s : List ℕ) (w : Outcome ℕ (List ℕ)) (e : List ℕ) → (length e ≡ 8 → ⊥) → returned 9 e s ≡ writes s w e
-unfolding writes
-not-written s w e n = not-sized endValues e s (w .answer) (w .areas) n
-
-pub written : (s : List ℕ) {told : Told ℕ} {t : List ℕ} {w : Outcome ℕ (List ℕ)} (e : List ℕ) {r : ℕ} {e' : List ℕ}
-    → length e ≡ 8 → numbers r e' ≡ inNumbers endValues told → outcome told t ≡ w → returned r e' t ≡ writes s w e
-unfolding writes
-written s e h q o = sized endValues (λ (w : Outcome ℕ (List ℕ)). w .answer) (λ (w : Outcome ℕ (List ℕ)). w .areas) e s h q o
 
 -- ---- a call of the scanner
 
@@ -73,7 +60,7 @@ either false e = refl
 
 pub not-fed : (a o : List ℕ) (w : FedOutcome) (e : List ℕ) → (length e ≡ 8 → ⊥) → returned 9 e (a, o) ≡ feeds a o w e
 unfolding feeds
-not-fed a o w e n = either (eqb (length a) 1029) (not-sized fedValues e (a, o) (w .answer) (w .areas) n)
+not-fed a o w e n = either (eqb (length a) 1029) (not-sized fedValues e (a, o) w n)
 
 pub not-held : (a o : List ℕ) (w : FedOutcome) (e : List ℕ) → (length a ≡ 1029 → ⊥) → returned 9 e (a, o) ≡ feeds a o w e
 unfolding feeds
@@ -83,7 +70,7 @@ pub fed : (a o : List ℕ) {told : Told FedAnswer} {a' o' : List ℕ} {w : FedOu
     → length e ≡ 8 → numbers r e' ≡ inNumbers fedValues told → outcome told (a', o') ≡ w → returned r e' (a', o') ≡ feeds a o w e
 unfolding feeds
 fed a o e k h q p =
-    sized fedValues (λ (w : FedOutcome). w .answer) (λ (w : FedOutcome). w .areas) e (a, o) h q p
+    sized fedValues e (a, o) h q p
     ∙ simp (eq-eqb (length a) 1029 k)
 
 -- ---- reading a bias block
@@ -92,23 +79,23 @@ pub not-read1059 : (sats gs : List ℕ) (zs : List ℤ) (w : Read1059) (e : List
     → (length e ≡ 8 → ⊥) → returned 9 e (sats, gs, zs) ≡ reads1059 sats gs zs w e
 unfolding reads1059
 not-read1059 sats gs zs w e n =
-    not-sized countedValues e (sats, gs, zs) (w .answer) (w .satellites, w .signals, w .biases) n
+    not-sized countedValues e (sats, gs, zs) (outcome (w .answer) (w .satellites, w .signals, w .biases)) n
 
 pub read1059 : (sats gs : List ℕ) (zs : List ℤ) {told : Told Counted} {sats' gs' : List ℕ} {zs' : List ℤ} {w : Read1059} (e : List ℕ) {r : ℕ} {e' : List ℕ}
     → length e ≡ 8 → numbers r e' ≡ inNumbers countedValues told → outcome1059 told sats' gs' zs' ≡ w
     → returned r e' (sats', gs', zs') ≡ reads1059 sats gs zs w e
 unfolding reads1059
 read1059 sats gs zs e h q o =
-    sized countedValues (λ (w : Read1059). w .answer) (λ (w : Read1059). (w .satellites, w .signals, w .biases)) e (sats, gs, zs) h q o
+    sized countedValues e (sats, gs, zs) h q (ap (λ (w : Read1059). outcome (w .answer) (w .satellites, w .signals, w .biases)) o)
 
 pub not-read1230 : (gs : List ℕ) (zs : List ℤ) (w : Read1230) (e : List ℕ)
     → (length e ≡ 8 → ⊥) → returned 9 e (gs, zs) ≡ reads1230 gs zs w e
 unfolding reads1230
-not-read1230 gs zs w e n = not-sized countedValues e (gs, zs) (w .answer) (w .signals, w .biases) n
+not-read1230 gs zs w e n = not-sized countedValues e (gs, zs) (outcome (w .answer) (w .signals, w .biases)) n
 
 pub read1230 : (gs : List ℕ) (zs : List ℤ) {told : Told Counted} {gs' : List ℕ} {zs' : List ℤ} {w : Read1230} (e : List ℕ) {r : ℕ} {e' : List ℕ}
     → length e ≡ 8 → numbers r e' ≡ inNumbers countedValues told → outcome1230 told gs' zs' ≡ w
     → returned r e' (gs', zs') ≡ reads1230 gs zs w e
 unfolding reads1230
 read1230 gs zs e h q o =
-    sized countedValues (λ (w : Read1230). w .answer) (λ (w : Read1230). (w .signals, w .biases)) e (gs, zs) h q o
+    sized countedValues e (gs, zs) h q (ap (λ (w : Read1230). outcome (w .answer) (w .signals, w .biases)) o)

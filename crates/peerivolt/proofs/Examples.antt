@@ -9,8 +9,8 @@ use Rattle.bits.specs.Field.{field, setBit, putField, withBit, readBy, readUnsi
 use Rattle.bits.specs.Crc.{crcBit, crcBits, crcByte, crcFrom, crc}
 use Rattle.frames.specs.Frame.{check}
 use Rattle.messages.specs.SignalOrder.{less}
-use Rattle.peerivolt.specs.Extra.{returned, reads}
-use Rattle.peerivolt.specs.Fields.{readingValues, signedValues, writes}
+use Rattle.peerivolt.specs.Extra.{returned, answered, reads}
+use Rattle.peerivolt.specs.Fields.{readingValues, signedValues, endValues}
 use Rattle.peerivolt.specs.Frames.{wholeValues}
 use Rattle.peerivolt.specs.Signals.{orderValues}
 
@@ -22,31 +22,31 @@ rubbish = replicate 8 77
 pub checked :
     reads wholeValues (check (0xD3 ∷ 0 ∷ 0 ∷ 0x47 ∷ 0xEA ∷ 0x4B ∷ [])) rubbish
     ≡ returned 0 (6 ∷ 0 ∷ 0 ∷ 0 ∷ 0x47EA4B ∷ 0 ∷ 0 ∷ 0 ∷ []) tt
-unfolding reads check field crcBit crcBits crcByte crcFrom crc
+unfolding answered check field crcBit crcBits crcByte crcFrom crc
 checked = refl
 
 -- refused: Incomplete carries nothing, Short the place
 pub refused :
     (reads wholeValues (check []) rubbish ≡ returned 12 (replicate 8 0) tt)
     × (reads readingValues (readUnsigned (0 ∷ []) 3 8) rubbish ≡ returned 1 (3 ∷ replicate 7 0) tt)
-unfolding reads check readBy field
+unfolding answered check readBy field
 refused = (refl, refl)
 
 -- an extra area of seven or nine numbers: Size, and it stays, and so do the data of a call that writes
 pub other-size :
     (reads wholeValues (check []) (replicate 7 77) ≡ returned 9 (replicate 7 77) tt)
-    × (writes (0 ∷ []) (writeUnsigned (0 ∷ []) 0 8 5) (replicate 9 77) ≡ returned 9 (replicate 9 77) (0 ∷ []))
-unfolding reads writes
+    × (answered endValues (replicate 9 77) (0 ∷ []) (writeUnsigned (0 ∷ []) 0 8 5) ≡ returned 9 (replicate 9 77) (0 ∷ []))
+unfolding answered
 other-size = (refl, refl)
 
 -- 5 written to eight bits ends at bit 8
-pub wrote-five : writes (0 ∷ []) (writeUnsigned (0 ∷ []) 0 8 5) rubbish ≡ returned 0 (8 ∷ replicate 7 0) (5 ∷ [])
-unfolding writes writeBy putField setBit withBit
+pub wrote-five : answered endValues rubbish (0 ∷ []) (writeUnsigned (0 ∷ []) 0 8 5) ≡ returned 0 (8 ∷ replicate 7 0) (5 ∷ [])
+unfolding answered writeBy putField setBit withBit
 wrote-five = refl
 
 -- a number below zero is 64 bits of two's complement
 pub below-zero :
     (reads signedValues (readTwos (0xD3 ∷ []) 0 8) rubbish ≡ returned 0 ((2 ^ 64 - 45) ∷ replicate 7 0) tt)
     × (reads orderValues (Accepted less) rubbish ≡ returned 0 ((2 ^ 64 - 1) ∷ replicate 7 0) tt)
-unfolding reads readBy field twosOf
+unfolding answered readBy field twosOf
 below-zero = (refl, refl)

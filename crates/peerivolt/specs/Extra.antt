@@ -5,6 +5,7 @@ use Prim.Native.Nat.{ℕ, _-_}
 use lib.ListN.{length, replicate}
 use lib.Dec.{eqb}
 use Rattle.bits.specs.Told.{Told, Accepted, Refused}
+use Rattle.bits.specs.Outcome.{Outcome, outcome}
 
 -- the number that a call returns, and the extra area as it leaves it
 pub record Numbers : Type 0 where
@@ -35,11 +36,11 @@ returned n e areas = record { answer = numbers n e; areas = areas }
 abbrev pub ifSized : {Areas : Type 0} → Bool → List ℕ → Areas → Returned Areas → Returned Areas
 ifSized sized e areas r = cond sized r (returned 9 e areas)
 
--- A call that finds the extra area e and the other areas `before`: e must have 8 numbers; then what is told is spread over it, and the other areas are as in `after`.
-abbrev pub answered : {A Areas : Type 0} → (A → List ℕ) → List ℕ → Areas → Told A → Areas → Returned Areas
-answered values e before told after =
-    ifSized (eqb (length e) 8) e before (record { answer = inNumbers values told; areas = after })
+-- A call that finds the extra area e and the other areas `before`, with the outcome w: e must have 8 numbers; then what w answers is spread over it, and the other areas are as in w.
+unfoldable pub answered : {A Areas : Type 0} → (A → List ℕ) → List ℕ → Areas → Outcome A Areas → Returned Areas
+answered values e before w =
+    ifSized (eqb (length e) 8) e before (record { answer = inNumbers values (w .answer); areas = w .areas })
 
--- a call that is lent the extra area alone to write
-unfoldable pub reads : {A : Type 0} → (A → List ℕ) → Told A → List ℕ → Returned Unit
-reads values told e = answered values e tt told tt
+-- a call that is lent the extra area alone to write, and tells d
+abbrev pub reads : {A : Type 0} → (A → List ℕ) → Told A → List ℕ → Returned Unit
+reads values d e = answered values e tt (outcome d tt)

@@ -3,9 +3,7 @@ use mathlib.Core.List.{List, [], _∷_}
 use Prim.Native.Nat.{ℕ}
 use lib.IntN.{ℤ}
 use Rattle.bits.specs.Signed.{twosBits}
-use Rattle.bits.specs.Outcome.{Outcome}
 use Rattle.bits.specs.Field.{Reading}
-use Rattle.peerivolt.specs.Extra.{Returned, answered}
 
 -- [0] the value
 abbrev pub readingValues : Reading ℕ → List ℕ
@@ -18,7 +16,3 @@ signedValues r = twosBits 64 (r .value) ∷ []
 -- [0] the end bit of what was written, or the frame's length
 abbrev pub endValues : ℕ → List ℕ
 endValues q = q ∷ []
-
--- a call that is lent the bytes s to write, with the outcome w
-unfoldable pub writes : List ℕ → Outcome ℕ (List ℕ) → List ℕ → Returned (List ℕ)
-writes s w e = answered endValues e s (w .answer) (w .areas)

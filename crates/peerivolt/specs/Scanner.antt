@@ -13,4 +13,4 @@ fedValues (Frame length taken skipped held) = 1 ∷ taken ∷ skipped ∷ held �
 
 -- A call that is lent the held area a, which must have 1,029 bytes, and the output o, with the outcome w.
 unfoldable pub feeds : List ℕ → List ℕ → FedOutcome → List ℕ → Returned (List ℕ × List ℕ)
-feeds a o w e = ifSized (eqb (length a) 1029) e (a, o) (answered fedValues e (a, o) (w .answer) (w .areas))
+feeds a o w e = ifSized (eqb (length a) 1029) e (a, o) (answered fedValues e (a, o) w)

@@ -6,9 +6,9 @@ ghost use Rattle.messages.specs.Write1059.{write1059};
 ghost use Rattle.messages.specs.Write1230.{write1230};
 ghost use Rattle.messages.specs.Metres.{metres1059, metres1230};
 ghost use Rattle.messages.specs.Answers.{toldRead, toldBlock};
-ghost use Rattle.peerivolt.specs.Extra.{returned, inNumbers};
+ghost use Rattle.peerivolt.specs.Extra.{returned, answered, inNumbers};
 ghost use Rattle.peerivolt.specs.Answers.{replied};
-ghost use Rattle.peerivolt.specs.Fields.{endValues, writes};
+ghost use Rattle.peerivolt.specs.Fields.{endValues};
 ghost use Rattle.peerivolt.specs.Biases.{countedValues, reads1059, reads1230};
 use crate::extra;
 use crate::extra::Reply;
@@ -52,7 +52,7 @@ pub extern "C" fn pv_1059_write(
     biases: &[i16],
     extra: &mut [u64],
 ) -> u32
-    ensures { λ r. ⌜ returned r (now (extra .exit)) (now (bytes .exit)) ≡ writes (now (bytes .entry)) (write1059 1 (now (bytes .entry)) start (now (satellites .entry)) (now (signals .entry)) (now (biases .entry))) (now (extra .entry)) ⌝ }
+    ensures { λ r. ⌜ returned r (now (extra .exit)) (now (bytes .exit)) ≡ answered endValues (now (extra .entry)) (now (bytes .entry)) (write1059 1 (now (bytes .entry)) start (now (satellites .entry)) (now (signals .entry)) (now (biases .entry))) ⌝ }
 {
     if extra.len() != 8 {
         return 9;
@@ -92,7 +92,7 @@ pub extern "C" fn pv_1230_write(
     biases: &[i16],
     extra: &mut [u64],
 ) -> u32
-    ensures { λ r. ⌜ returned r (now (extra .exit)) (now (bytes .exit)) ≡ writes (now (bytes .entry)) (write1230 (now (bytes .entry)) start (now (signals .entry)) (now (biases .entry))) (now (extra .entry)) ⌝ }
+    ensures { λ r. ⌜ returned r (now (extra .exit)) (now (bytes .exit)) ≡ answered endValues (now (extra .entry)) (now (bytes .entry)) (write1230 (now (bytes .entry)) start (now (signals .entry)) (now (biases .entry))) ⌝ }
 {
     if extra.len() != 8 {
         return 9;
@@ -123,10 +123,10 @@ fn block_read(answer: BlockRead) -> Reply
     ensures { λ r. ⌜ replied r ≡ inNumbers countedValues (toldRead answer) ⌝ }
 {
     match answer {
-        BlockRead::Records { count, end } => Reply(0, count as u64, end as u64, 0, 0, 0),
-        BlockRead::Size => Reply(9, 0, 0, 0, 0, 0),
-        BlockRead::Short(place) => Reply(1, place as u64, 0, 0, 0, 0),
-        BlockRead::Room(records) => Reply(8, records as u64, 0, 0, 0, 0),
+        BlockRead::Records { count, end } => extra::with_two(0, count as u64, end as u64),
+        BlockRead::Size => extra::bare(9),
+        BlockRead::Short(place) => extra::with_one(1, place as u64),
+        BlockRead::Room(records) => extra::with_one(8, records as u64),
     }
 }
 
@@ -134,13 +134,13 @@ fn block_written(answer: BlockWritten) -> Reply
     ensures { λ r. ⌜ replied r ≡ inNumbers endValues (toldBlock answer) ⌝ }
 {
     match answer {
-        BlockWritten::End(q) => Reply(0, q as u64, 0, 0, 0, 0),
-        BlockWritten::Size => Reply(9, 0, 0, 0, 0, 0),
-        BlockWritten::Satellite(index) => Reply(5, index as u64, 0, 0, 0, 0),
-        BlockWritten::Signal(index) => Reply(4, index as u64, 0, 0, 0, 0),
-        BlockWritten::Range(index) => Reply(3, index as u64, 0, 0, 0, 0),
-        BlockWritten::TooMany(which) => Reply(6, which as u64, 0, 0, 0, 0),
-        BlockWritten::Duplicate(index) => Reply(7, index as u64, 0, 0, 0, 0),
-        BlockWritten::Room(bits) => Reply(8, bits as u64, 0, 0, 0, 0),
+        BlockWritten::End(q) => extra::with_one(0, q as u64),
+        BlockWritten::Size => extra::bare(9),
+        BlockWritten::Satellite(index) => extra::with_one(5, index as u64),
+        BlockWritten::Signal(index) => extra::with_one(4, index as u64),
+        BlockWritten::Range(index) => extra::with_one(3, index as u64),
+        BlockWritten::TooMany(which) => extra::with_one(6, which as u64),
+        BlockWritten::Duplicate(index) => extra::with_one(7, index as u64),
+        BlockWritten::Room(bits) => extra::with_one(8, bits as u64),
     }
 }

@@ -3,9 +3,9 @@ ghost use mathlib.Core.Path.{_≡_};
 ghost use Rattle.bits.specs.Crc.{crc};
 ghost use Rattle.bits.specs.Field.{readUnsigned, readTwos, readSignmag, writeUnsigned, writeTwos, writeSignmag};
 ghost use Rattle.bits.specs.Answers.{toldUnsigned, toldSigned, toldWritten};
-ghost use Rattle.peerivolt.specs.Extra.{returned, inNumbers, reads};
+ghost use Rattle.peerivolt.specs.Extra.{returned, answered, inNumbers, reads};
 ghost use Rattle.peerivolt.specs.Answers.{replied};
-ghost use Rattle.peerivolt.specs.Fields.{readingValues, signedValues, endValues, writes};
+ghost use Rattle.peerivolt.specs.Fields.{readingValues, signedValues, endValues};
 use crate::extra;
 use crate::extra::Reply;
 use bits::field;
@@ -81,7 +81,7 @@ pub extern "C" fn pv_field_write_unsigned(
     value: u64,
     extra: &mut [u64],
 ) -> u32
-    ensures { λ r. ⌜ returned r (now (extra .exit)) (now (bytes .exit)) ≡ writes (now (bytes .entry)) (writeUnsigned (now (bytes .entry)) start width value) (now (extra .entry)) ⌝ }
+    ensures { λ r. ⌜ returned r (now (extra .exit)) (now (bytes .exit)) ≡ answered endValues (now (extra .entry)) (now (bytes .entry)) (writeUnsigned (now (bytes .entry)) start width value) ⌝ }
 {
     if extra.len() != 8 {
         return 9;
@@ -101,7 +101,7 @@ pub extern "C" fn pv_field_write_twos(
     value: i64,
     extra: &mut [u64],
 ) -> u32
-    ensures { λ r. ⌜ returned r (now (extra .exit)) (now (bytes .exit)) ≡ writes (now (bytes .entry)) (writeTwos (now (bytes .entry)) start width value) (now (extra .entry)) ⌝ }
+    ensures { λ r. ⌜ returned r (now (extra .exit)) (now (bytes .exit)) ≡ answered endValues (now (extra .entry)) (now (bytes .entry)) (writeTwos (now (bytes .entry)) start width value) ⌝ }
 {
     if extra.len() != 8 {
         return 9;
@@ -121,7 +121,7 @@ pub extern "C" fn pv_field_write_signmag(
     value: i64,
     extra: &mut [u64],
 ) -> u32
-    ensures { λ r. ⌜ returned r (now (extra .exit)) (now (bytes .exit)) ≡ writes (now (bytes .entry)) (writeSignmag (now (bytes .entry)) start width value) (now (extra .entry)) ⌝ }
+    ensures { λ r. ⌜ returned r (now (extra .exit)) (now (bytes .exit)) ≡ answered endValues (now (extra .entry)) (now (bytes .entry)) (writeSignmag (now (bytes .entry)) start width value) ⌝ }
 {
     if extra.len() != 8 {
         return 9;
@@ -136,10 +136,10 @@ fn unsigned_read(read: Unsigned) -> Reply
     ensures { λ r. ⌜ replied r ≡ inNumbers readingValues (toldUnsigned read) ⌝ }
 {
     match read {
-        Unsigned::Value(v, _) => Reply(0, v, 0, 0, 0, 0),
-        Unsigned::Size => Reply(9, 0, 0, 0, 0, 0),
-        Unsigned::Width => Reply(2, 0, 0, 0, 0, 0),
-        Unsigned::Short(place) => Reply(1, place as u64, 0, 0, 0, 0),
+        Unsigned::Value(v, _) => extra::with_one(0, v),
+        Unsigned::Size => extra::bare(9),
+        Unsigned::Width => extra::bare(2),
+        Unsigned::Short(place) => extra::with_one(1, place as u64),
     }
 }
 
@@ -147,10 +147,10 @@ fn signed_read(read: Signed) -> Reply
     ensures { λ r. ⌜ replied r ≡ inNumbers signedValues (toldSigned read) ⌝ }
 {
     match read {
-        Signed::Value(z, _) => Reply(0, extra::in_64_bits(z), 0, 0, 0, 0),
-        Signed::Size => Reply(9, 0, 0, 0, 0, 0),
-        Signed::Width => Reply(2, 0, 0, 0, 0, 0),
-        Signed::Short(place) => Reply(1, place as u64, 0, 0, 0, 0),
+        Signed::Value(z, _) => extra::with_one(0, extra::in_64_bits(z)),
+        Signed::Size => extra::bare(9),
+        Signed::Width => extra::bare(2),
+        Signed::Short(place) => extra::with_one(1, place as u64),
     }
 }
 
@@ -158,10 +158,10 @@ fn written(answer: Written) -> Reply
     ensures { λ r. ⌜ replied r ≡ inNumbers endValues (toldWritten answer) ⌝ }
 {
     match answer {
-        Written::End(q) => Reply(0, q as u64, 0, 0, 0, 0),
-        Written::Size => Reply(9, 0, 0, 0, 0, 0),
-        Written::Width => Reply(2, 0, 0, 0, 0, 0),
-        Written::Range => Reply(3, 0, 0, 0, 0, 0),
-        Written::Room(width) => Reply(8, width as u64, 0, 0, 0, 0),
+        Written::End(q) => extra::with_one(0, q as u64),
+        Written::Size => extra::bare(9),
+        Written::Width => extra::bare(2),
+        Written::Range => extra::with_one(3, 0),
+        Written::Room(width) => extra::with_one(8, width as u64),
     }
 }

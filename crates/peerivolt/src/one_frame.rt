@@ -3,9 +3,9 @@ ghost use mathlib.Core.Path.{_≡_};
 ghost use mathlib.Core.List.{[], _∷_};
 ghost use Rattle.frames.specs.Frame.{check, writeFrame};
 ghost use Rattle.frames.specs.Answers.{toldNumber, toldChecked, toldFramed};
-ghost use Rattle.peerivolt.specs.Extra.{returned, numbers, spread, inNumbers, reads};
+ghost use Rattle.peerivolt.specs.Extra.{returned, answered, numbers, spread, inNumbers, reads};
 ghost use Rattle.peerivolt.specs.Answers.{replied};
-ghost use Rattle.peerivolt.specs.Fields.{endValues, writes};
+ghost use Rattle.peerivolt.specs.Fields.{endValues};
 ghost use Rattle.peerivolt.specs.Frames.{messageNumber, wholeValues};
 use crate::extra;
 use crate::extra::Reply;
@@ -29,7 +29,7 @@ pub extern "C" fn pv_frame_check(bytes: &[u8], extra: &mut [u64]) -> u32
 // Writes the frame of the data to the front of the output. Extra: its length.
 #[no_mangle]
 pub extern "C" fn pv_frame_write(bytes: &[u8], out: &mut [u8], extra: &mut [u64]) -> u32
-    ensures { λ r. ⌜ returned r (now (extra .exit)) (now (out .exit)) ≡ writes (now (out .entry)) (writeFrame (now (bytes .entry)) (now (out .entry))) (now (extra .entry)) ⌝ }
+    ensures { λ r. ⌜ returned r (now (extra .exit)) (now (out .exit)) ≡ answered endValues (now (extra .entry)) (now (out .entry)) (writeFrame (now (bytes .entry)) (now (out .entry))) ⌝ }
 {
     if extra.len() != 8 {
         return 9;
@@ -47,8 +47,8 @@ fn checked(answer: Checked) -> Reply
             number,
             sum,
         } => whole(length as u64, data as u64, number, sum as u64),
-        Checked::NotValid => Reply(10, 0, 0, 0, 0, 0),
-        Checked::Incomplete => Reply(12, 0, 0, 0, 0, 0),
+        Checked::NotValid => extra::bare(10),
+        Checked::Incomplete => extra::bare(12),
     }
 }
 
@@ -56,8 +56,14 @@ fn whole(size: u64, carried: u64, number: Number, sum: u64) -> Reply
     ensures { λ r. ⌜ replied r ≡ numbers 0 (spread (size ∷ carried ∷ messageNumber (toldNumber number) (sum ∷ []))) ⌝ }
 {
     match number {
-        Number::Absent => Reply(0, size, carried, 0, 0, sum),
-        Number::Is(n) => Reply(0, size, carried, 1, n as u64, sum),
+        Number::Absent => Reply {
+            number: 0,
+            extra: [size, carried, 0, 0, sum, 0, 0, 0],
+        },
+        Number::Is(n) => Reply {
+            number: 0,
+            extra: [size, carried, 1, n as u64, sum, 0, 0, 0],
+        },
     }
 }
 
@@ -65,8 +71,8 @@ fn framed(answer: Framed) -> Reply
     ensures { λ r. ⌜ replied r ≡ inNumbers endValues (toldFramed answer) ⌝ }
 {
     match answer {
-        Framed::Length(n) => Reply(0, n as u64, 0, 0, 0, 0),
-        Framed::Size => Reply(9, 0, 0, 0, 0, 0),
-        Framed::Room(n) => Reply(8, n as u64, 0, 0, 0, 0),
+        Framed::Length(n) => extra::with_one(0, n as u64),
+        Framed::Size => extra::bare(9),
+        Framed::Room(n) => extra::with_one(8, n as u64),
     }
 }

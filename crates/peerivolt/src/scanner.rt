@@ -40,22 +40,30 @@ fn fed(answer: Fed) -> Reply
             taken,
             skipped,
             held,
-        } => Reply(0, 0, taken as u64, skipped as u64, held as u64, 0),
+        } => Reply {
+            number: 0,
+            extra: [0, taken as u64, skipped as u64, held as u64, 0, 0, 0, 0],
+        },
         Fed::Frame {
             length,
             taken,
             skipped,
             held,
-        } => Reply(
-            0,
-            1,
-            taken as u64,
-            skipped as u64,
-            held as u64,
-            length as u64,
-        ),
-        Fed::Size => Reply(9, 0, 0, 0, 0, 0),
-        Fed::State => Reply(11, 0, 0, 0, 0, 0),
-        Fed::Room(n) => Reply(8, n as u64, 0, 0, 0, 0),
+        } => Reply {
+            number: 0,
+            extra: [
+                1,
+                taken as u64,
+                skipped as u64,
+                held as u64,
+                length as u64,
+                0,
+                0,
+                0,
+            ],
+        },
+        Fed::Size => extra::bare(9),
+        Fed::State => extra::bare(11),
+        Fed::Room(n) => extra::with_one(8, n as u64),
     }
 }

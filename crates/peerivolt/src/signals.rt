@@ -64,8 +64,11 @@ fn signal_found(found: SignalFound) -> Reply
     ensures { λ r. ⌜ replied r ≡ inNumbers signalValues (Accepted (foundSignal found)) ⌝ }
 {
     match found {
-        SignalFound::At(band, letter) => Reply(0, 1, band as u64, letter as u64, 0, 0),
-        SignalFound::None => Reply(0, 0, 0, 0, 0, 0),
+        SignalFound::At(band, letter) => Reply {
+            number: 0,
+            extra: [1, band as u64, letter as u64, 0, 0, 0, 0, 0],
+        },
+        SignalFound::None => extra::with_one(0, 0),
     }
 }
 
@@ -73,8 +76,8 @@ fn number_found(found: NumberFound) -> Reply
     ensures { λ r. ⌜ replied r ≡ inNumbers numberValues (Accepted (foundNumber found)) ⌝ }
 {
     match found {
-        NumberFound::At(number) => Reply(0, 1, number as u64, 0, 0, 0),
-        NumberFound::None => Reply(0, 0, 0, 0, 0, 0),
+        NumberFound::At(number) => extra::with_two(0, 1, number as u64),
+        NumberFound::None => extra::with_one(0, 0),
     }
 }
 
@@ -82,8 +85,8 @@ fn ordered(order: Order) -> Reply
     ensures { λ r. ⌜ replied r ≡ inNumbers orderValues (Accepted (toldOrder order)) ⌝ }
 {
     match order {
-        Order::Less => Reply(0, 0xFFFF_FFFF_FFFF_FFFF, 0, 0, 0, 0),
-        Order::Equal => Reply(0, 0, 0, 0, 0, 0),
-        Order::Greater => Reply(0, 1, 0, 0, 0, 0),
+        Order::Less => extra::with_one(0, 0xFFFF_FFFF_FFFF_FFFF),
+        Order::Equal => extra::with_one(0, 0),
+        Order::Greater => extra::with_one(0, 1),
     }
 }

@@ -4,12 +4,13 @@ use mir.Syntax.{w64}
 use mir.ValLaws.{toZ-ofZ}
 use borrow.Author.Needs.{needs}
 use Rattle.bits.specs.Field.{writeTwos}
-use Rattle.peerivolt.proofs.AnswerLaws.{not-written, written}
+use Rattle.peerivolt.specs.Fields.{endValues}
+use Rattle.peerivolt.proofs.AnswerLaws.{not-sized, sized}
 use Rattle.peerivolt.proofs.fields.pv_field_write_twos.Statement.{statement}
 use Rattle.peerivolt.proofs.fields.pv_field_write_twos.Tie as tie
 
 returns : tie.Need-returns
-returns c = not-written _ _ _ (c .if1 .taken)
+returns c = not-sized endValues _ _ _ (c .if1 .taken)
 
 write-twos-requires : tie.Need-write-twos-requires
 write-twos-requires c κs = search needs
@@ -32,7 +33,7 @@ returns-2 c =
     let t = f .before .before in
     let b = t .before .before .before in
     let s = b .before .before .before .before .before in
-    written _ _ (b .before .before .if1 .left) (f .fill .ensures ∙ t .written .ensures)
+    sized endValues _ _ (b .before .before .if1 .left) (f .fill .ensures ∙ t .written .ensures)
     (b .write-twos .ensures ∙ ap (writeTwos _ _ _) (toZ-ofZ w64 (s .args .value) (s .fits .value)))
 
 pub pv-field-write-twos-spec : {M : Type 1} → statement M

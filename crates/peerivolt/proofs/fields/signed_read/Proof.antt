@@ -13,45 +13,35 @@ use Rattle.peerivolt.proofs.AnswerLaws.{tells}
 use Rattle.peerivolt.proofs.fields.signed_read.Statement.{statement}
 use Rattle.peerivolt.proofs.fields.signed_read.Tie as tie
 
-enum-known-read : tie.Need-enum-known-read
-enum-known-read c = search needs
-
-in-64-bits-requires : tie.Need-in-64-bits-requires
-in-64-bits-requires c κs = search needs
-
-enum-told : tie.Need-enum-told
-enum-told c = search needs
-
-enum-told-2 : tie.Need-enum-told-2
-enum-told-2 c = search needs
-
-enum-known-read-2 : tie.Need-enum-known-read-2
-enum-known-read-2 c = search needs
-
 returns : tie.Need-returns
 returns c =
-    let k = c .before .before .read .given in
-    ap (λ (v : ℕ). numbers 0 (spread (v ∷ []))) (c .in-64-bits .ensures ∙ ap (twosBits 64) (toZ-ofZ w64 (k .0 .0) (record { sfits = c .before .known-told .given .0 .1 })))
+    let k = c .before .before .before .read .given in
+    c .with-one .ensures
+    ∙ ap (λ (v : ℕ). numbers 0 (spread (v ∷ []))) (c .before .in-64-bits .ensures ∙ ap (twosBits 64) (toZ-ofZ w64 (k .0 .0) (record { sfits = c .before .before .known-told .given .0 .1 })))
     ∙ tells signedValues toldSigned (k .1)
 
 returns-2 : tie.Need-returns-2
-returns-2 c = tells signedValues toldSigned (c .enum-told .given .1)
+returns-2 c = c .bare .ensures ∙ tells signedValues toldSigned (c .before .enum-told .given .1)
 
 returns-3 : tie.Need-returns-3
-returns-3 c = tells signedValues toldSigned (c .enum-told2 .given .1)
+returns-3 c = c .bare2 .ensures ∙ tells signedValues toldSigned (c .before .enum-told2 .given .1)
 
 returns-4 : tie.Need-returns-4
-returns-4 c = tells signedValues toldSigned (c .before .read2 .given .1)
+returns-4 c = c .with-one2 .ensures ∙ tells signedValues toldSigned (c .before .before .read2 .given .1)
 
 pub signed-read-spec : {M : Type 1} → statement M
 signed-read-spec =
     tie.close
     (tie.spec
-    enum-known-read
-    in-64-bits-requires
-    enum-told
-    enum-told-2
-    enum-known-read-2
+    (λ c. search needs)
+    (λ c κs. search needs)
+    (λ c κs. search needs)
+    (λ c. search needs)
+    (λ c κs. search needs)
+    (λ c. search needs)
+    (λ c κs. search needs)
+    (λ c. search needs)
+    (λ c κs. search needs)
     returns
     returns-2
     returns-3

@@ -26,10 +26,10 @@ returns : tie.Need-returns
 returns c = c .whole .ensures ∙ tells wholeValues toldChecked (c .before .before .answer .given .1)
 
 returns-2 : tie.Need-returns-2
-returns-2 c = tells wholeValues toldChecked (c .enum-told .given .1)
+returns-2 c = c .bare .ensures ∙ tells wholeValues toldChecked (c .before .enum-told .given .1)
 
 returns-3 : tie.Need-returns-3
-returns-3 c = tells wholeValues toldChecked (c .enum-told2 .given .1)
+returns-3 c = c .bare2 .ensures ∙ tells wholeValues toldChecked (c .before .enum-told2 .given .1)
 
 pub checked-spec : {M : Type 1} → statement M
 checked-spec =
@@ -39,7 +39,9 @@ checked-spec =
     cast-whole
     whole-requires
     enum-told
+    (λ c κs. search needs)
     enum-told-2
+    (λ c κs. search needs)
     returns
     returns-2
     returns-3)

@@ -9,15 +9,6 @@ use Rattle.peerivolt.specs.Frames.{messageNumber}
 use Rattle.peerivolt.proofs.one_frame.whole.Statement.{statement}
 use Rattle.peerivolt.proofs.one_frame.whole.Tie as tie
 
-enum-told : tie.Need-enum-told
-enum-told c = search needs
-
-enum-known-number : tie.Need-enum-known-number
-enum-known-number c = search needs
-
-cast-t7 : tie.Need-cast-t7
-cast-t7 c = search needs
-
 returns : tie.Need-returns
 returns c =
     let a = c .before .before .args in
@@ -29,4 +20,4 @@ returns-2 c =
     ap (λ (n : Number). numbers 0 (spread (a .size ∷ a .carried ∷ messageNumber (toldNumber n) (a .sum ∷ [])))) (sym (c .before .number .given .1))
 
 pub whole-spec : {M : Type 1} → statement M
-whole-spec = tie.close (tie.spec enum-told enum-known-number cast-t7 returns returns-2)
+whole-spec = tie.close (tie.spec (λ c. search needs) (λ c. search needs) (λ c. search needs) returns returns-2)

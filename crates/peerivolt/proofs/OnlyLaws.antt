@@ -1,0 +1,100 @@
+-- The statement of each export allows one answer: the returned number, the extra area and the other lent areas. Assumes nothing.
+use mathlib.Core.Path.{_≡_, sym, ap, _∙_}
+use mathlib.Core.List.{List}
+use Prim.Native.Nat.{ℕ}
+use lib.IntN.{ℤ}
+use Rattle.bits.specs.Told.{Told, Accepted}
+use Rattle.bits.specs.Crc.{crc}
+use Rattle.bits.specs.Field.{readUnsigned, readTwos, readSignmag, writeUnsigned, writeTwos, writeSignmag}
+use Rattle.frames.specs.Frame.{check, writeFrame}
+use Rattle.frames.specs.Rtcm.{rtcm}
+use Rattle.frames.specs.Call.{feedOf}
+use Rattle.messages.specs.Read1059.{read1059}
+use Rattle.messages.specs.Read1230.{read1230}
+use Rattle.messages.specs.Write1059.{write1059}
+use Rattle.messages.specs.Write1230.{write1230}
+use Rattle.messages.specs.Metres.{metres1059, metres1230}
+use Rattle.messages.specs.Signals.{sig, tableOf, signalOf, numberOf}
+use Rattle.messages.specs.SignalOrder.{order}
+use Rattle.peerivolt.specs.Extra.{Returned, returned, answered, reads}
+use Rattle.peerivolt.specs.Fields.{readingValues, signedValues, endValues}
+use Rattle.peerivolt.specs.Frames.{wholeValues}
+use Rattle.peerivolt.specs.Scanner.{feeds}
+use Rattle.peerivolt.specs.Biases.{reads1059, reads1230}
+use Rattle.peerivolt.specs.Signals.{signalValues, numberValues, orderValues}
+
+-- two answers that are both d are equal, number, extra area and lent areas
+pub record OneAnswer {Areas : Type 0} (d : Returned Areas) : Type 0 where
+  pub same : {r r' : ℕ} {e e' : List ℕ} {a a' : Areas} → returned r e a ≡ d → returned r' e' a' ≡ d → (r ≡ r') × (e ≡ e') × (a ≡ a')
+
+-- the same of a call that returns a value and is lent nothing to write
+pub record OneValue {A : Type 0} (d : A) : Type 0 where
+  pub same : {x y : A} → x ≡ d → y ≡ d → x ≡ y
+
+pub only-returned : {Areas : Type 0} (d : Returned Areas) → OneAnswer d
+only-returned {Areas} d =
+    record { same = λ p q. let i = p ∙ sym q in (ap (λ (x : Returned Areas). x .answer .number) i, ap (λ (x : Returned Areas). x .answer .extra) i, ap (λ (x : Returned Areas). x .areas) i) }
+
+pub only-value : {A : Type 0} (d : A) → OneValue d
+only-value d = record { same = λ p q. p ∙ sym q }
+
+-- ---- each export: s the bytes, p the start, w the width, e the extra area
+
+pub only-pv-crc24q : (s : List ℕ) → OneValue (crc s)
+only-pv-crc24q s = only-value (crc s)
+
+pub only-pv-field-read-unsigned : (s : List ℕ) (p w : ℕ) (e : List ℕ) → OneAnswer (reads readingValues (readUnsigned s p w) e)
+only-pv-field-read-unsigned s p w e = only-returned (reads readingValues (readUnsigned s p w) e)
+
+pub only-pv-field-read-twos : (s : List ℕ) (p w : ℕ) (e : List ℕ) → OneAnswer (reads signedValues (readTwos s p w) e)
+only-pv-field-read-twos s p w e = only-returned (reads signedValues (readTwos s p w) e)
+
+pub only-pv-field-read-signmag : (s : List ℕ) (p w : ℕ) (e : List ℕ) → OneAnswer (reads signedValues (readSignmag s p w) e)
+only-pv-field-read-signmag s p w e = only-returned (reads signedValues (readSignmag s p w) e)
+
+pub only-pv-field-write-unsigned : (s : List ℕ) (p w v : ℕ) (e : List ℕ) → OneAnswer (answered endValues e s (writeUnsigned s p w v))
+only-pv-field-write-unsigned s p w v e = only-returned (answered endValues e s (writeUnsigned s p w v))
+
+pub only-pv-field-write-twos : (s : List ℕ) (p w : ℕ) (z : ℤ) (e : List ℕ) → OneAnswer (answered endValues e s (writeTwos s p w z))
+only-pv-field-write-twos s p w z e = only-returned (answered endValues e s (writeTwos s p w z))
+
+pub only-pv-field-write-signmag : (s : List ℕ) (p w : ℕ) (z : ℤ) (e : List ℕ) → OneAnswer (answered endValues e s (writeSignmag s p w z))
+only-pv-field-write-signmag s p w z e = only-returned (answered endValues e s (writeSignmag s p w z))
+
+pub only-pv-frame-check : (s e : List ℕ) → OneAnswer (reads wholeValues (check s) e)
+only-pv-frame-check s e = only-returned (reads wholeValues (check s) e)
+
+pub only-pv-frame-write : (d out e : List ℕ) → OneAnswer (answered endValues e out (writeFrame d out))
+only-pv-frame-write d out e = only-returned (answered endValues e out (writeFrame d out))
+
+pub only-pv-feed : (held : List ℕ) (count : ℕ) (piece out e : List ℕ) → OneAnswer (feeds held out (feedOf rtcm held count piece out) e)
+only-pv-feed held count piece out e = only-returned (feeds held out (feedOf rtcm held count piece out) e)
+
+pub only-pv-1059-read : (s : List ℕ) (p : ℕ) (sats gs : List ℕ) (zs : List ℤ) (e : List ℕ) → OneAnswer (reads1059 sats gs zs (read1059 s p sats gs zs) e)
+only-pv-1059-read s p sats gs zs e = only-returned (reads1059 sats gs zs (read1059 s p sats gs zs) e)
+
+pub only-pv-1059-write : (s : List ℕ) (p : ℕ) (sats gs : List ℕ) (zs : List ℤ) (e : List ℕ) → OneAnswer (answered endValues e s (write1059 1 s p sats gs zs))
+only-pv-1059-write s p sats gs zs e = only-returned (answered endValues e s (write1059 1 s p sats gs zs))
+
+pub only-pv-1230-read : (s : List ℕ) (p : ℕ) (gs : List ℕ) (zs : List ℤ) (e : List ℕ) → OneAnswer (reads1230 gs zs (read1230 s p gs zs) e)
+only-pv-1230-read s p gs zs e = only-returned (reads1230 gs zs (read1230 s p gs zs) e)
+
+pub only-pv-1230-write : (s : List ℕ) (p : ℕ) (gs : List ℕ) (zs : List ℤ) (e : List ℕ) → OneAnswer (answered endValues e s (write1230 s p gs zs))
+only-pv-1230-write s p gs zs e = only-returned (answered endValues e s (write1230 s p gs zs))
+
+pub only-pv-1059-metres : (raw : ℤ) → OneValue (metres1059 raw)
+only-pv-1059-metres raw = only-value (metres1059 raw)
+
+pub only-pv-1230-metres : (raw : ℤ) → OneValue (metres1230 raw)
+only-pv-1230-metres raw = only-value (metres1230 raw)
+
+pub only-pv-signal-of : (system number : ℕ) (e : List ℕ) → OneAnswer (reads signalValues (Accepted (signalOf (tableOf system) number)) e)
+only-pv-signal-of system number e = only-returned (reads signalValues (Accepted (signalOf (tableOf system) number)) e)
+
+pub only-pv-number-of : (system band letter : ℕ) (e : List ℕ) → OneAnswer (reads numberValues (Accepted (numberOf (tableOf system) (sig band letter))) e)
+only-pv-number-of system band letter e = only-returned (reads numberValues (Accepted (numberOf (tableOf system) (sig band letter))) e)
+
+pub only-pv-signal-order : (system band1 letter1 band2 letter2 : ℕ) (e : List ℕ)
+    → OneAnswer (reads orderValues (Accepted (order (tableOf system) (sig band1 letter1) (sig band2 letter2))) e)
+only-pv-signal-order system band1 letter1 band2 letter2 e =
+    only-returned (reads orderValues (Accepted (order (tableOf system) (sig band1 letter1) (sig band2 letter2))) e)
