@@ -3,5 +3,8 @@ pub mod NextLaws
 pub mod TimesLaws
 pub mod ShapedLaws
 pub mod NumberedLaws
+pub mod FixedLaws
 pub mod GoodLaws
 pub mod UseLaws
+pub mod PutLaws
+pub mod WrittenLaws

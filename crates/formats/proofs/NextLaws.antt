@@ -15,6 +15,10 @@ use Rattle.formats.specs.Faithful.{Stands, Faithful, Cut, OnlyShort}
 
 -- ---- answers one behind the other
 
+-- what is accepted is one thing
+pub accepted-same : {A : Type 0} {a b : A} → Accepted a ≡ Accepted b → a ≡ b
+accepted-same e = cc
+
 -- a step that was accepted came behind one that was
 pub then-accepted : {A B : Type 0} (t : Told A) (f : A → Told B) {b : B} → andThen t f ≡ Accepted b → (a : A) × (t ≡ Accepted a) × (f a ≡ Accepted b)
 then-accepted (Accepted a) f e = (a, refl, e)

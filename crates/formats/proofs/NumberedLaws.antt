@@ -2,7 +2,7 @@
 use mathlib.Core.Path.{_≡_, refl, sym, ap, subst, _∙_}
 use mathlib.Core.Bool.{Bool, true, false, cond}
 use mathlib.Core.Logic.{inl, inr}
-use mathlib.Core.List.{List}
+use mathlib.Core.List.{List, _∷_}
 use Prim.Native.Nat.{ℕ, _+_, _*_, _^_, _≤_, _<_}
 use native.Mathlib.Omega.{arith}
 use borrow.Author.Tests.{eqb-true, eq-eqb, ne-eqb}
@@ -10,7 +10,8 @@ use lib.ListN.{length}
 use lib.Dec.{eqb, lit≤}
 use Rattle.bits.specs.Told.{Told, Accepted, Refused, andThen, kind}
 use Rattle.bits.specs.Field.{field, Reading, reading, readUnsigned}
-use Rattle.bits.specs.Fields.{total, Holds, Fit}
+use Rattle.bits.specs.Fields.{bits, total, Holds}
+use Rattle.bits.proofs.FieldsLaws.{total-next, holds-first, holds-rest, holds-next, fit-next}
 use Rattle.bits.proofs.ReadLaws.{reads-value, read-tells}
 use Rattle.formats.specs.Format.{Format, numbered}
 use Rattle.formats.specs.Faithful.{Faithful, Cut, CutOrKind, OnlyShort}
@@ -24,15 +25,15 @@ module _ {A : Type 0} (n : ℕ) (F : Format A) where
   is-kind false t e = let z : _≡_ {A = ℕ} 0 1 = cc in absurd (omega arith)
 
   pub numbered-faithful : n < 2 ^ 12 → Faithful F → Faithful (numbered n F)
-  unfolding Holds total Fit
   numbered-faithful small f =
       record {
         back = λ s p a few g h l.
-            let t = total (F .fields a) in
-            let e : p + 12 + t ≡ p + (12 + t) = omega arith in
-            rw (reads-value (λ v. v) s p 12 few (lit≤ tt) (lit≤ tt) (omega arith))
-            (rw (eq-eqb (field s p 12) n (h .0))
-            (f .back s (p + 12) a few g (h .1) (omega arith) ∙ ap (λ (q : ℕ). Accepted (reading a q)) e));
+            let fs = F .fields a in
+            let t = total-next 12 n fs in
+            let e : p + 12 + total fs ≡ p + total (bits 12 n ∷ fs) = omega (arith, t) in
+            rw (reads-value (λ v. v) s p 12 few (lit≤ tt) (lit≤ tt) (omega (arith, t, l)))
+            (rw (eq-eqb (field s p 12) n (holds-first s p 12 n fs h))
+            (f .back s (p + 12) a few g (holds-rest s p 12 n fs h) (omega (arith, t, l)) ∙ ap (λ (q : ℕ). Accepted (reading a q)) e));
         there = λ s p r e.
             let a = then-accepted (readUnsigned s p 12) _ e in
             let t = read-tells (λ v. v) s p 12 (a .1) in
@@ -40,13 +41,15 @@ module _ {A : Type 0} (n : ℕ) (F : Format A) where
             let v : a .0 .value ≡ field s p 12 = ap (λ x. x .value) (t .is) in
             let q : a .0 .next ≡ p + 12 = ap (λ x. x .next) (t .is) in
             let x = f .there s (a .0 .next) r (b .1) in
+            let fs = F .fields (r .value) in
+            let k = total-next 12 n fs in
             record {
               fitting = x .fitting;
-              holds = (sym v ∙ eqb-true (a .0 .value) n (b .0), subst (λ (k : ℕ). Holds s k (F .fields (r .value))) q (x .holds));
-              ends = omega (arith, q, x .ends);
-              within = λ some. end-within (length s * 8) p (p + 12) (r .next) 12 (total (F .fields (r .value))) refl (omega (arith, q, x .ends)) (λ k. t .within) (x .within) some;
+              holds = holds-next s p 12 n fs (sym v ∙ eqb-true (a .0 .value) n (b .0)) (subst (λ (k : ℕ). Holds s k fs) q (x .holds));
+              ends = omega (arith, q, k, x .ends);
+              within = λ some. end-within (length s * 8) p (p + 12) (r .next) 12 (total fs) refl (omega (arith, q, x .ends)) (λ _. t .within) (x .within) (omega (arith, k));
             };
-        fit = λ a g. (small, f .fit a g);
+        fit = λ a g. fit-next 12 n (F .fields a) small (f .fit a g);
       }
 
   -- a message of another number is refused as such

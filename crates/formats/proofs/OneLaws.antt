@@ -1,16 +1,17 @@
 -- A format of one field is faithful where number and meaning undo each other. Assumes nothing.
 use mathlib.Core.Path.{_≡_, refl, sym, ap, ap₂, subst, _∙_}
 use mathlib.Core.Bool.{Bool, true}
-use mathlib.Core.List.{List}
+use mathlib.Core.List.{List, [], _∷_}
 use Prim.Native.Nat.{ℕ, _+_, _^_, _≤_, _<_}
 use native.Mathlib.Omega.{arith}
 use borrow.Author.Tests.{lt-ltb, ltb-true}
 use lib.ListN.{length}
 use Rattle.bits.specs.Told.{Told, Accepted, Refused, short}
 use Rattle.bits.specs.Field.{field, Reading, reading, readBy}
-use Rattle.bits.specs.Fields.{total, Holds, Fit}
+use Rattle.bits.specs.Fields.{bits, total}
 use Rattle.bits.specs.Signed.{fitsUnsigned, fitsTwos, twosBits, twosOf}
 use Rattle.bits.proofs.FieldLaws.{field-lt}
+use Rattle.bits.proofs.FieldsLaws.{total-one, holds-first, holds-one, fit-none, fit-next}
 use Rattle.bits.proofs.ReadLaws.{reads-value, read-tells, refused-short}
 use Rattle.bits.proofs.SignedLaws.{twos-bits-lt, twos-back, twos-fits, twos-again}
 use Rattle.formats.specs.Format.{coded, unsigned, twos}
@@ -27,23 +28,23 @@ module _ {A : Type 0} (w : ℕ) (fit : A → Bool) (number : A → ℕ) (meaning
     pub again : (v : ℕ) → v < 2 ^ w → number (meaning v) ≡ v
 
   pub coded-faithful : Undo → Faithful (coded w fit number meaning)
-  unfolding Holds total Fit
   coded-faithful u =
       record {
         back = λ s p a few f h l.
-            let e : p + w ≡ p + (w + 0) = omega arith in
-            reads-value meaning s p w few (u .low) (u .high) (omega arith)
-            ∙ ap₂ (λ (x : A) (q : ℕ). Accepted (reading x q)) (ap meaning (h .0) ∙ u .means a f) e;
+            let one = total-one w (number a) in
+            let e : p + w ≡ p + total (bits w (number a) ∷ []) = omega (arith, one) in
+            reads-value meaning s p w few (u .low) (u .high) (omega (arith, one, l))
+            ∙ ap₂ (λ (x : A) (q : ℕ). Accepted (reading x q)) (ap meaning (holds-first s p w (number a) [] h) ∙ u .means a f) e;
         there = λ s p r e.
             let t = read-tells meaning s p w e in
             subst (λ (x : Reading A). Stands (coded w fit number meaning) s p (x .value) (x .next)) (sym (t .is))
             (record {
               fitting = u .reached (field s p w) (field-lt s p w);
-              holds = (sym (u .again (field s p w) (field-lt s p w)), tt);
-              ends = omega arith;
+              holds = holds-one s p w _ (sym (u .again (field s p w) (field-lt s p w)));
+              ends = let one = total-one w (number (meaning (field s p w))) in omega (arith, one);
               within = λ some. t .within;
             });
-        fit = λ a f. (u .small a f, tt);
+        fit = λ a f. fit-next w (number a) [] (u .small a f) fit-none;
       }
 
   pub coded-short : Undo → OnlyShort (coded w fit number meaning)

@@ -11,7 +11,7 @@ use lib.Dec.{eqb}
 use Rattle.bits.specs.Told.{Accepted, Refused}
 use Rattle.bits.specs.Field.{Reading, reading}
 use Rattle.bits.specs.Fields.{total, Holds, Fit}
-use Rattle.bits.proofs.FieldsLaws.{total-append, holds-append, fit-append}
+use Rattle.bits.proofs.FieldsLaws.{total-none, holds-none, fit-none, total-append, holds-append, fit-append}
 use Rattle.formats.specs.Format.{Format, next, times, fitEach, fieldsEach, readEach}
 use Rattle.formats.specs.Faithful.{Stands, Faithful, Cut, OnlyShort}
 use Rattle.formats.proofs.NextLaws.{then-accepted, cut-then, both-true, true-both, next-stands}
@@ -41,7 +41,29 @@ module _ {A : Type 0} (F : Format A) where
   not-none : (n : ℕ) → times (suc n) F .fits [] ≡ true → ⊥
   not-none n f = let e = eqb-true (length {A = A} []) (suc n) (both-true (eqb (length {A = A} []) (suc n)) (fitEach F []) f .0) in omega arith
 
-  -- as a loop reads: none, one more, and one that is refused
+  -- the fields of one more
+  pub fields-next : (x : A) (xs : List A) → fieldsEach F (x ∷ xs) ≡ F .fields x ++ fieldsEach F xs
+  unfolding fieldsEach
+  fields-next x xs = refl
+
+  pub fields-none : fieldsEach F [] ≡ []
+  unfolding fieldsEach
+  fields-none = refl
+
+  -- one more fits
+  pub fit-each : (x : A) (xs : List A) → F .fits x ≡ true → fitEach F xs ≡ true → fitEach F (x ∷ xs) ≡ true
+  unfolding fitEach
+  fit-each x xs f g = true-both (F .fits x) (fitEach F xs) f g
+
+  pub fit-each-none : fitEach F [] ≡ true
+  unfolding fitEach
+  fit-each-none = refl
+
+  pub each-fits : (x : A) (xs : List A) → fitEach F (x ∷ xs) ≡ true → (F .fits x ≡ true) × (fitEach F xs ≡ true)
+  unfolding fitEach
+  each-fits x xs e = both-true (F .fits x) (fitEach F xs) e
+
+  -- as a loop reads: none, one more, one that is refused, and one behind it that is
   pub each-none : (s : List ℕ) (p : ℕ) → readEach F 0 s p ≡ Accepted (reading [] p)
   unfolding readEach
   each-none s p = refl
@@ -55,11 +77,16 @@ module _ {A : Type 0} (F : Format A) where
   unfolding readEach
   each-refused n s d = rw d
 
+  pub each-later : (n : ℕ) (s : List ℕ) {p q m : ℕ} {x : A} {carried : List ℕ} → F .reads s p ≡ Accepted (reading x q) → readEach F n s q ≡ Refused m carried
+      → readEach F (suc n) s p ≡ Refused m carried
+  unfolding readEach
+  each-later n s d e = rw d (rw e)
+
   module _ (f : Faithful F) where
     each-back : (n : ℕ) (s : List ℕ) (p : ℕ) (xs : List A) → length s ≤ 1023 → times n F .fits xs ≡ true → Holds s p (fieldsEach F xs)
         → p + total (fieldsEach F xs) ≤ length s * 8 → readEach F n s p ≡ Accepted (reading xs (p + total (fieldsEach F xs)))
-    unfolding total fieldsEach readEach
-    each-back zero s p [] few g h l = ap (λ (q : ℕ). Accepted (reading [] q)) (sym (add-zero p))
+    unfolding fieldsEach readEach
+    each-back zero s p [] few g h l = ap (λ (q : ℕ). Accepted (reading [] q)) (sym (ap (λ (n : ℕ). p + n) total-none ∙ add-zero p))
     each-back zero s p (x ∷ xs) few g h l = let e = ap length (fits-none (x ∷ xs) g) in absurd (omega arith)
     each-back (suc n) s p [] few g h l = absurd (not-none n g)
     each-back (suc n) s p (x ∷ xs) few g h l =
@@ -73,11 +100,11 @@ module _ {A : Type 0} (F : Format A) where
         ∙ ap (λ (q : ℕ). Accepted (reading (x ∷ xs) q)) e
 
     each-there : (n : ℕ) (s : List ℕ) (p : ℕ) (r : Reading (List A)) → readEach F n s p ≡ Accepted r → Stands (times n F) s p (r .value) (r .next)
-    unfolding Holds total fitEach fieldsEach readEach
+    unfolding fitEach fieldsEach readEach
     each-there zero s p r e =
         let i : reading [] p ≡ r = cc e in
         subst (λ (x : Reading (List A)). Stands (times 0 F) s p (x .value) (x .next)) i
-        (record { fitting = refl; holds = tt; ends = sym (add-zero p); within = λ some. absurd (omega (arith, some)) })
+        (record { fitting = refl; holds = holds-none s p; ends = sym (ap (λ (n : ℕ). p + n) total-none ∙ add-zero p); within = λ some. absurd (omega (arith, some, total-none)) })
     each-there (suc n) s p r e =
         let a = then-accepted (F .reads s p) _ e in
         let b = then-accepted (readEach F n s (a .0 .next)) _ (a .2) in
@@ -89,8 +116,8 @@ module _ {A : Type 0} (F : Format A) where
         (record { fitting = fits-more n (a .0 .value) (b .0 .value) (x .fitting) (y .fitting); holds = z .holds; ends = z .ends; within = z .within })
 
     each-fit : (n : ℕ) (xs : List A) → times n F .fits xs ≡ true → Fit (fieldsEach F xs)
-    unfolding Fit fieldsEach
-    each-fit n [] g = tt
+    unfolding fieldsEach
+    each-fit n [] g = fit-none
     each-fit zero (x ∷ xs) g = let e = ap length (fits-none (x ∷ xs) g) in absurd (omega arith)
     each-fit (suc n) (x ∷ xs) g =
         let b = fits-rest n x xs g in

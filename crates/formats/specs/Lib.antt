@@ -1,2 +1,4 @@
 pub mod Format
 pub mod Faithful
+pub mod Written
+pub mod Put

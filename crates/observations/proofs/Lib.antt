@@ -1,0 +1,11 @@
+pub mod MeasuredLaws
+pub mod TakeLaws
+pub mod PhaseLaws
+pub mod RowLaws
+pub mod FrontLaws
+pub mod MessageLaws
+pub mod ListLaws
+pub mod ReadLaws
+pub mod WriteLaws
+pub mod ToldLaws
+pub mod ReadBack1001
