@@ -5,7 +5,7 @@ use lib.IntN.{ℤ, pos, negsuc}
 use lib.Dec.{eqb}
 use lib.Ieee.{Float, binary64, round, ofInt, mul}
 use Rattle.observations.specs.declared.measured.Measured.{Measured}
-use Rattle.observations.specs.declared.measured.Measured.the-variants.{Absent, Metres}
+use Rattle.observations.specs.declared.measured.Measured.the-variants.{Absent, Count, Metres}
 
 -- the raw number as f64 times n / d metres, rounded once
 abbrev pub lengthOf : ℕ → ℕ → ℤ → Float
@@ -23,3 +23,7 @@ isPhaseMarker (negsuc n) = eqb n 0x7FFFF
 -- DF012: minus 80000 hex is absent, any other number a length in 0.0005 m
 unfoldable pub phaseOf : ℤ → Measured
 phaseOf raw = cond (isPhaseMarker raw) Absent (Metres (lengthOf 5 10000 raw))
+
+-- DF013: a plain count
+abbrev pub lockOf : ℕ → Measured
+lockOf raw = Count raw

@@ -1,6 +1,6 @@
 // What a raw number of an observation measures.
 ghost use mathlib.Core.Path.{_≡_};
-ghost use Rattle.observations.specs.Measured.{pseudorangeOf, phaseOf};
+ghost use Rattle.observations.specs.Measured.{pseudorangeOf, phaseOf, lockOf};
 
 // Absent, a plain count, or a length in metres.
 pub enum Measured {
@@ -31,7 +31,7 @@ pub fn phase(raw: i32) -> Measured
 
 // DF013, the L1 lock time indicator.
 pub fn lock(raw: u32) -> Measured
-    ensures { λ r. ⌜ r ≡ Measured.Count raw ⌝ }
+    ensures { λ r. ⌜ r ≡ lockOf raw ⌝ }
 {
     Measured::Count(raw)
 }
