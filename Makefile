@@ -15,8 +15,10 @@
 # LIB=ref or LIB=plain puts a stand-in in the place of the library (the plain reference, or the plain C program of the
 # benchmark), to try the tests without it. Stand-ins stay in build/ and are never installed but below it.
 
-VERSION := 0.1.0
-SONAME := libpeerivolt.so.0
+# The version stands in the header. The number in the shared object's name goes up by one whenever a program that was
+# built before would not run with it any more: another layout of struct pv_scanner, other parameters of a call.
+VERSION := $(shell sed -n 's/^\#define PV_VERSION_TEXT "\(.*\)"/\1/p' include/peerivolt.h)
+SONAME := libpeerivolt.so.1
 PREFIX ?= /usr/local
 RT ?= rt
 LIB ?= peerivolt
@@ -51,20 +53,20 @@ libpeerivolt.a: $(RATTLE_FILES)
 # The whole archive as a shared object that exports the names of the header and nothing else.
 SHARE := -shared -Wl,-soname,$(SONAME) -Wl,--version-script=c/peerivolt.map -Wl,-z,defs
 
-libpeerivolt.so.0: libpeerivolt.a c/peerivolt.map
+$(SONAME): libpeerivolt.a c/peerivolt.map
 	$(CC) $(LDFLAGS) $(SHARE) -Wl,--whole-archive $< -Wl,--no-whole-archive -o $@
 
-libpeerivolt.so: libpeerivolt.so.0
+libpeerivolt.so: $(SONAME)
 	ln -sf $(SONAME) $@
 
 ifeq ($(LIB),peerivolt)
 ARCHIVE := libpeerivolt.a
 SAN_ARCHIVE := libpeerivolt.a
-SHARED := libpeerivolt.so.0
+SHARED := $(SONAME)
 else
 ARCHIVE := $(B)/libpeerivolt.a
 SAN_ARCHIVE := $(B)/san/libpeerivolt.a
-SHARED := $(B)/libpeerivolt.so.0
+SHARED := $(B)/$(SONAME)
 endif
 
 # ---- Stand-ins.
@@ -78,7 +80,7 @@ build/$(LIB)/libpeerivolt.a: $(STAND_IN:%=$(B)/pic/%.o)
 build/$(LIB)/san/libpeerivolt.a: $(STAND_IN:%=$(B)/san/%.o)
 	rm -f $@ && $(AR) rcs $@ $^
 
-build/$(LIB)/libpeerivolt.so.0: $(B)/libpeerivolt.a c/peerivolt.map
+build/$(LIB)/$(SONAME): $(B)/libpeerivolt.a c/peerivolt.map
 	$(CC) $(LDFLAGS) $(SHARE) -Wl,--whole-archive $< -Wl,--no-whole-archive -o $@
 
 # ---- Objects: opt is what runs, san has the sanitizers, pic goes into a stand-in.
@@ -216,7 +218,7 @@ check-relay: $(foreach name,relay $(HELPERS),$(B)/opt/$(name) $(B)/san/$(name))
 
 check-install: $(ARCHIVE) $(SHARED)
 	@$(MAKE) --no-print-directory install LIB=$(LIB) DESTDIR= PREFIX=$(abspath $(B))/prefix >/dev/null
-	CC='$(CC)' c/test_install.sh $(abspath $(B))/prefix c/example.c $(call recording,rtcm3-3.bin) 200
+	CC='$(CC)' SONAME=$(SONAME) VERSION=$(VERSION) c/test_install.sh $(abspath $(B))/prefix c/example.c $(call recording,rtcm3-3.bin) 200
 
 # ---- Installing.
 
@@ -262,4 +264,4 @@ lint:
 	else echo "cppcheck: skipped, since it is not here"; fi
 
 clean:
-	rm -rf build libpeerivolt.a libpeerivolt.so libpeerivolt.so.0
+	rm -rf build libpeerivolt.a libpeerivolt.so libpeerivolt.so.*

@@ -12,6 +12,11 @@
 #define EITHER(name) ref_##name
 #endif
 
+uint32_t pv_version(void)
+{
+    return PV_VERSION;
+}
+
 uint32_t pv_crc24q(const uint8_t *bytes, size_t bytes_len)
 {
     return EITHER(crc24q)(bytes, bytes_len);

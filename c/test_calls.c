@@ -939,6 +939,15 @@ static void extra_of_another_size(void)
     }
 }
 
+/* The library is that of the header, and the header's two ways to say its version agree. */
+static void version(void)
+{
+    char text[20];
+    CHECK_EQ(pv_version(), PV_VERSION);
+    snprintf(text, sizeof text, "%u.%u.%u", PV_VERSION / 1000000, PV_VERSION / 1000 % 1000, PV_VERSION % 1000);
+    CHECK(strcmp(text, PV_VERSION_TEXT) == 0);
+}
+
 static void refusal_names(void)
 {
     CHECK(strcmp(pv_refusal_name(PV_ACCEPTED), "Accepted") == 0);
@@ -979,5 +988,6 @@ int main(void)
     signal_tables();
     extra_of_another_size();
     refusal_names();
+    version();
     return checks_result("calls");
 }

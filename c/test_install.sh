@@ -1,7 +1,7 @@
 #!/bin/sh
 # Builds the example program against an installed library, by the archive and by the shared object, and runs it.
 #
-# Usage: test_install.sh PREFIX EXAMPLE RECORDING FRAMES
+# Usage: SONAME=.. VERSION=.. test_install.sh PREFIX EXAMPLE RECORDING FRAMES
 set -u
 
 prefix=$1
@@ -36,7 +36,8 @@ ${CC:-cc} -std=c11 "$example" -I"$prefix/include" "$prefix/lib/libpeerivolt.a" -
 check "status of building against the archive" $? 0
 check "frames by the shared object" "$("$work/shared" <"$recording" | wc -l)" "$frames"
 check "frames by the archive" "$("$work/static" <"$recording" | wc -l)" "$frames"
-check "the shared object is what is used" "$(ldd "$work/shared" | grep -c "$prefix/lib/libpeerivolt.so.0")" 1
+check "the shared object is what is used" "$(ldd "$work/shared" | grep -c "$prefix/lib/$SONAME")" 1
+check "the version of the pkg-config file" "$(sed -n 's/^Version: //p' "$prefix/lib/pkgconfig/peerivolt.pc")" "$VERSION"
 
-echo "install: 6 checks, $failed failed"
+echo "install: 7 checks, $failed failed"
 [ "$failed" -eq 0 ]

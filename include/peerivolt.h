@@ -41,6 +41,18 @@
 extern "C" {
 #endif
 
+/* ---- Version. ---- */
+
+/*
+ * The version of this header: the major number times 1,000,000, plus the minor one times 1,000, plus the patch. A program
+ * that is linked with the library of this header finds pv_version() == PV_VERSION.
+ */
+#define PV_VERSION 2000u
+#define PV_VERSION_TEXT "0.2.0"
+
+/* The version of the library itself. Refuses nothing. */
+uint32_t pv_version(void);
+
 /* ---- Refusals: what a call returns, and what the refusal carries in extra[PV_AT_CARRIED]. ---- */
 
 #define PV_ACCEPTED 0u    /* Not refused. */
@@ -78,6 +90,11 @@ static inline const char *pv_refusal_name(uint32_t number)
 #define PV_1059_READ_MAX 422 /* Records that always suffice for reading a 1059 block. */
 #define PV_1059_WRITE_MAX 1953 /* Records in the longest list that a 1059 block is written from. */
 #define PV_1230_MAX 4        /* Records in the longest 1230 block, in reading and in writing. */
+
+/* ---- Where the block starts in the data of a whole message: the bits of the header before it. ---- */
+
+#define PV_1059_BLOCK_START 61
+#define PV_1230_BLOCK_START 28
 
 /* ---- Places in the extra area. ---- */
 
@@ -216,7 +233,8 @@ uint32_t pv_feed(uint8_t *held, size_t held_len, size_t held_count, const uint8_
  * Reads a block from bit `start` of the data on: a satellite count (6 bits); for each satellite its number (6) and its
  * bias count (5); for each bias its signal (5) and the bias (14, two's complement, in 0.01 m). Record i is satellites[i],
  * signals[i], biases[i]. The records come in the order of the stream; later places of the lists stay as they are. Lists
- * of PV_1059_READ_MAX (422) always suffice, and longer ones are accepted.
+ * of PV_1059_READ_MAX (422) always suffice, and longer ones are accepted. In the data of a message 1059 the block starts
+ * at bit PV_1059_BLOCK_START (61), behind the header.
  *
  * A reserved signal is kept as its number with its bias: a signal that is read need not be one that can be written.
  *
@@ -253,7 +271,8 @@ float pv_1059_metres(int16_t raw);
 /*
  * Reads a block from bit `start` of the data on: a mask (4 bits, from the top 1C, 1P, 2C, 2P), then 16 bits two's
  * complement in 0.02 m for each set bit. A record's signal is its number in the table of PV_GLO: 2, 3, 8 or 9, and not
- * its place in the mask. Records come in mask order; later places of the lists stay as they are.
+ * its place in the mask. Records come in mask order; later places of the lists stay as they are. In the data of a message
+ * 1230 the block starts at bit PV_1230_BLOCK_START (28), behind the header.
  *
  * Refuses, in this order: PV_SIZE (data above 1,023 bytes, or lists of unequal length), PV_SHORT (carries the bit where
  * the first field that does not fit starts), PV_ROOM (carries how many records there are).
@@ -313,6 +332,10 @@ uint32_t pv_signal_order(uint32_t system, uint32_t band_a, uint32_t letter_a, ui
 
 /* ---- A scanner that keeps its held bytes and their count together. ---- */
 
+/*
+ * The caller has it in its own memory, so its layout is a part of the interface: a library whose scanner has another
+ * layout has another shared object name.
+ */
 struct pv_scanner {
     uint8_t held[PV_HELD_SIZE];
     size_t held_count;

@@ -6,3 +6,4 @@ pub mod fields;
 pub mod one_frame;
 pub mod scanner;
 pub mod signals;
+pub mod version;
