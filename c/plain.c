@@ -165,13 +165,13 @@ uint32_t PLAIN(frame_check)(const uint8_t *bytes, size_t bytes_len, uint64_t *ex
     if (bytes_len < PV_FRAME_MIN)
         return answer(extra, PV_INCOMPLETE, 0, 0);
     if (bytes[0] != 0xD3)
-        return answer(extra, PV_NOT_VALID, 0, 0);
+        return answer(extra, PV_NO_PREAMBLE, 0, 0);
     size_t length = declared_length(bytes);
     if (bytes_len < length + PV_FRAME_MIN)
         return answer(extra, PV_INCOMPLETE, 0, 0);
     uint32_t sum = PLAIN(crc24q)(bytes, length + 3);
     if (sum != sent_checksum(bytes + length + 3))
-        return answer(extra, PV_NOT_VALID, 0, 0);
+        return answer(extra, PV_BAD_CHECK, sent_checksum(bytes + length + 3), sum);
     answer(extra, PV_ACCEPTED, length + PV_FRAME_MIN, length);
     if (length >= 2) {
         extra[PV_AT_FRAME_HAS_NUMBER] = 1;

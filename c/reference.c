@@ -22,6 +22,14 @@ static uint32_t refuse(uint64_t *extra, uint32_t number, uint64_t carried)
     return number;
 }
 
+/* A refusal that carries two numbers. */
+static uint32_t refuse_two(uint64_t *extra, uint32_t number, uint64_t carried, uint64_t carried_too)
+{
+    refuse(extra, number, carried);
+    extra[1] = carried_too;
+    return number;
+}
+
 static uint32_t accept_one(uint64_t *extra, uint64_t first)
 {
     clear(extra);
@@ -223,12 +231,12 @@ static uint32_t judge_frame(const uint8_t *bytes, size_t bytes_len)
     if (bytes_len < PV_FRAME_MIN)
         return PV_INCOMPLETE;
     if (bytes[0] != 0xD3)
-        return PV_NOT_VALID;
+        return PV_NO_PREAMBLE;
     size_t length = declared_length(bytes);
     if (bytes_len < length + PV_FRAME_MIN)
         return PV_INCOMPLETE;
     if (ref_crc24q(bytes, length + 3) != get_field(bytes + length + 3, 0, 24))
-        return PV_NOT_VALID;
+        return PV_BAD_CHECK;
     return PV_ACCEPTED;
 }
 
@@ -237,9 +245,11 @@ uint32_t ref_frame_check(const uint8_t *bytes, size_t bytes_len, uint64_t *extra
     if (extra_len != PV_EXTRA_SIZE)
         return PV_SIZE;
     uint32_t refusal = judge_frame(bytes, bytes_len);
-    if (refusal != PV_ACCEPTED)
+    if (refusal == PV_INCOMPLETE || refusal == PV_NO_PREAMBLE)
         return refuse(extra, refusal, 0);
     size_t length = declared_length(bytes);
+    if (refusal == PV_BAD_CHECK)
+        return refuse_two(extra, refusal, get_field(bytes + length + 3, 0, 24), ref_crc24q(bytes, length + 3));
     clear(extra);
     extra[PV_AT_FRAME_LENGTH] = length + PV_FRAME_MIN;
     extra[PV_AT_FRAME_DATA_LENGTH] = length;
@@ -278,7 +288,7 @@ enum ref_fate ref_scan(const uint8_t *stream, size_t stream_len, size_t place, s
     uint32_t refusal = judge_frame(stream + place, stream_len - place);
     if (refusal == PV_INCOMPLETE)
         return REF_HELD;
-    if (refusal == PV_NOT_VALID)
+    if (refusal == PV_BAD_CHECK)
         return REF_SKIPPED;
     *frame_len = declared_length(stream + place) + PV_FRAME_MIN;
     return REF_FRAME;

@@ -42,6 +42,14 @@ static void refused(uint32_t got, uint32_t number, uint64_t carried, const char 
     nothing_written(what, line);
 }
 
+static void refused_two(uint32_t got, uint32_t number, uint64_t carried, uint64_t carried_too, const char *what, int line)
+{
+    const uint64_t both[] = { carried, carried_too };
+    check_equal(got, number, what, __FILE__, line);
+    extra_is(both, 2, what, line);
+    nothing_written(what, line);
+}
+
 static void accepted(uint32_t got, const uint64_t *numbers, size_t n, const char *what, int line)
 {
     check_equal(got, PV_ACCEPTED, what, __FILE__, line);
@@ -49,6 +57,8 @@ static void accepted(uint32_t got, const uint64_t *numbers, size_t n, const char
 }
 
 #define REFUSED(call, number, carried) (ready(), refused((call), (number), (carried), #call, __LINE__))
+#define REFUSED_TWO(call, number, carried, carried_too)                                                                \
+    (ready(), refused_two((call), (number), (carried), (carried_too), #call, __LINE__))
 #define ACCEPTED(call, ...)                                                                                            \
     (ready(), accepted((call), (const uint64_t[]){ __VA_ARGS__ }, sizeof((const uint64_t[]){ __VA_ARGS__ }) / 8, #call, \
                        __LINE__))
@@ -115,7 +125,7 @@ static void example_1_to_3(void)
     ACCEPTED(pv_frame_check(DATA, EXTRA), 6, 0, 0, 0, 0x47EA4B);
 
     LEND(data, 0xD3, 0, 0, 0x47, 0xEA, 0x4A);
-    REFUSED(pv_frame_check(DATA, EXTRA), PV_NOT_VALID, 0);
+    REFUSED_TWO(pv_frame_check(DATA, EXTRA), PV_BAD_CHECK, 0x47EA4A, 0x47EA4B);
     REFUSED(pv_frame_check(NULL, 0, EXTRA), PV_INCOMPLETE, 0);
 }
 
@@ -312,11 +322,11 @@ static void frame_refusal_order(void)
     LEND(data, 1, 2, 3, 4, 5);
     REFUSED(pv_frame_check(DATA, EXTRA), PV_INCOMPLETE, 0);
     LEND(data, 1, 2, 3, 4, 5, 6);
-    REFUSED(pv_frame_check(DATA, EXTRA), PV_NOT_VALID, 0);
+    REFUSED(pv_frame_check(DATA, EXTRA), PV_NO_PREAMBLE, 0);
     LEND(data, 0xD3, 0, 1, 0, 0, 0);
     REFUSED(pv_frame_check(DATA, EXTRA), PV_INCOMPLETE, 0);
     LEND(data, 0xD3, 0, 1, 0, 0, 0, 0);
-    REFUSED(pv_frame_check(DATA, EXTRA), PV_NOT_VALID, 0);
+    REFUSED_TWO(pv_frame_check(DATA, EXTRA), PV_BAD_CHECK, 0, pv_crc24q(data.bytes, 4));
 }
 
 /* Frames data of a length, checks what the check says of it, and that each cut and each flipped bit is noticed. */
@@ -333,7 +343,9 @@ static void frame_of_length(size_t n)
     ACCEPTED(pv_frame_check(OUT, EXTRA), n + 6, n, n >= 2, n >= 2 ? 0x3C3 : 0, sum);
     REFUSED(pv_frame_check(out.bytes, n + 5, EXTRA), PV_INCOMPLETE, 0);
     out.bytes[n + 5] ^= 1;
-    REFUSED(pv_frame_check(OUT, EXTRA), PV_NOT_VALID, 0);
+    REFUSED_TWO(pv_frame_check(OUT, EXTRA), PV_BAD_CHECK, sum ^ 1, sum);
+    out.bytes[0] ^= 1;
+    REFUSED(pv_frame_check(OUT, EXTRA), PV_NO_PREAMBLE, 0);
     area_lend(&out, n + 5, 0x99);
     REFUSED(pv_frame_write(DATA, OUT, EXTRA), PV_ROOM, n + 6);
     REFUSED(pv_frame_write(DATA, NULL, 0, EXTRA), PV_ROOM, n + 6);
@@ -933,7 +945,7 @@ static void extra_of_another_size(void)
     for (unsigned call = 0; call < 16; call++) {
         ready();
         uint32_t got = call_number(call, EXTRA);
-        CHECK(got == PV_ACCEPTED || got == PV_NOT_VALID);
+        CHECK(got == PV_ACCEPTED || got == PV_NO_PREAMBLE);
         for (size_t i = 0; i < PV_EXTRA_SIZE; i++)
             CHECK(area_u64(&extra)[i] != UINT64_C(0xEEEEEEEEEEEEEEEE));
     }
@@ -955,7 +967,12 @@ static void refusal_names(void)
     CHECK(strcmp(pv_refusal_name(PV_TOO_MANY), "TooMany") == 0);
     CHECK(strcmp(pv_refusal_name(PV_SIZE), "Size") == 0);
     CHECK(strcmp(pv_refusal_name(PV_INCOMPLETE), "Incomplete") == 0);
-    CHECK(strcmp(pv_refusal_name(13), "Unknown") == 0);
+    CHECK(strcmp(pv_refusal_name(PV_NO_PREAMBLE), "NoPreamble") == 0);
+    CHECK(strcmp(pv_refusal_name(PV_KIND), "Kind") == 0);
+    CHECK(strcmp(pv_refusal_name(PV_BAD_CHECK), "BadCheck") == 0);
+    CHECK(strcmp(pv_refusal_name(PV_FULL), "Full") == 0);
+    CHECK(strcmp(pv_refusal_name(PV_ABSENT), "Absent") == 0);
+    CHECK(strcmp(pv_refusal_name(17), "Unknown") == 0);
     CHECK(strcmp(pv_refusal_name(UINT32_MAX), "Unknown") == 0);
 }
 

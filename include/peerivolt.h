@@ -65,16 +65,20 @@ uint32_t pv_version(void);
 #define PV_DUPLICATE 7u   /* A 1230 signal twice. Carries the index of the first repeat. */
 #define PV_ROOM 8u        /* A lent output is too small. Carries what would have been needed; each function says in what. */
 #define PV_SIZE 9u        /* An input above its limit, lists of unequal length, or an area of fixed size with another size. */
-#define PV_NOT_VALID 10u  /* The first byte is not D3, or the checksum differs. */
+#define PV_NO_PREAMBLE 10u /* The first byte is not D3. */
 #define PV_STATE 11u      /* A scanner's held count above 1,029. */
 #define PV_INCOMPLETE 12u /* The bytes end before the frame does: more bytes may make it whole. */
+#define PV_KIND 13u       /* Another message number, or another edition, than the call takes. */
+#define PV_BAD_CHECK 14u  /* The checksum differs. Carries the one sent, and in extra[PV_AT_CARRIED_TOO] the one computed. */
+#define PV_FULL 15u       /* No entry has the key, and none is free. */
+#define PV_ABSENT 16u     /* No entry has the key. */
 
 /* The name of a refusal, as in "Short"; "Accepted" for 0 and "Unknown" for a number that is no refusal. Never null. */
 static inline const char *pv_refusal_name(uint32_t number)
 {
     static const char *const names[] = {
         "Accepted", "Short", "Width", "Range", "Signal", "Satellite", "TooMany",
-        "Duplicate", "Room", "Size", "NotValid", "State", "Incomplete",
+        "Duplicate", "Room", "Size", "NoPreamble", "State", "Incomplete", "Kind", "BadCheck", "Full", "Absent",
     };
     return number < sizeof names / sizeof names[0] ? names[number] : "Unknown";
 }
@@ -98,7 +102,8 @@ static inline const char *pv_refusal_name(uint32_t number)
 
 /* ---- Places in the extra area. ---- */
 
-#define PV_AT_CARRIED 0 /* After any refusal. */
+#define PV_AT_CARRIED 0     /* After any refusal. */
+#define PV_AT_CARRIED_TOO 1 /* After a refusal that carries two numbers: PV_BAD_CHECK. */
 
 #define PV_AT_FIELD_VALUE 0 /* Field read: the value. */
 #define PV_AT_FIELD_END 0   /* Field written: the bit behind the field. */
@@ -177,8 +182,9 @@ uint32_t pv_field_write_signmag(uint8_t *data, size_t data_len, size_t start, si
  * of ten bits; L data bytes; the checksum of the first L + 3 bytes in three bytes, highest first. Takes any length;
  * bytes after the frame are ignored.
  *
- * Refuses, in this order: PV_INCOMPLETE (fewer than 6 bytes, whatever they are), PV_NOT_VALID (the first byte is not
- * D3), PV_INCOMPLETE (fewer than L + 6 bytes), PV_NOT_VALID (the checksum differs).
+ * Refuses, in this order: PV_INCOMPLETE (fewer than 6 bytes, whatever they are), PV_NO_PREAMBLE (the first byte is not
+ * D3), PV_INCOMPLETE (fewer than L + 6 bytes), PV_BAD_CHECK (the checksum differs; carries the one sent in
+ * [PV_AT_CARRIED] and the one computed in [PV_AT_CARRIED_TOO]).
  * Answers: [PV_AT_FRAME_LENGTH] L + 6; [PV_AT_FRAME_DATA_LENGTH] L, the data starting at byte 3;
  * [PV_AT_FRAME_HAS_NUMBER] 1 if L is at least 2, else 0; [PV_AT_FRAME_NUMBER] the first 12 data bits, or 0;
  * [PV_AT_FRAME_CHECKSUM] the checksum.

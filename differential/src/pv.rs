@@ -22,9 +22,10 @@ pub const TOO_MANY: u32 = 6;
 pub const DUPLICATE: u32 = 7;
 pub const ROOM: u32 = 8;
 pub const SIZE: u32 = 9;
-pub const NOT_VALID: u32 = 10;
+pub const NO_PREAMBLE: u32 = 10;
 pub const STATE: u32 = 11;
 pub const INCOMPLETE: u32 = 12;
+pub const BAD_CHECK: u32 = 14;
 
 /// What the extra area holds before a call, so that a number that was not written shows.
 const UNWRITTEN: u64 = 0xA5A5_5A5A_A5A5_5A5A;

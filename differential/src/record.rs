@@ -145,7 +145,7 @@ fn frames(list: &mut List, random: &mut Random) {
                 record.plain(&frame.crc.to_be_bytes()[1..])
             }
             Err("Incomplete") => record.refused(pv::INCOMPLETE, 0),
-            Err("NotValid") => record.refused(pv::NOT_VALID, 0),
+            Err("NotValid") => record.refused(pv::NO_PREAMBLE, 0),
             Err(other) => never(other),
         };
         list.add(&record);

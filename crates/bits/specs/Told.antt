@@ -51,9 +51,9 @@ room needed = Refused 8 (needed ∷ [])
 abbrev pub size : {A : Type 0} → Told A
 size = Refused 9 []
 
--- 10 NotValid: the first byte is not D3, or the checksum differs.
-abbrev pub notValid : {A : Type 0} → Told A
-notValid = Refused 10 []
+-- 10 NoPreamble: the first byte is not D3.
+abbrev pub noPreamble : {A : Type 0} → Told A
+noPreamble = Refused 10 []
 
 -- 11 State: a scanner's held count above 1,029.
 abbrev pub state : {A : Type 0} → Told A

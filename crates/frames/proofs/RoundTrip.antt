@@ -10,33 +10,15 @@ use Rattle.bits.specs.Told.{Told, Accepted}
 use Rattle.bits.specs.Outcome.{Outcome}
 use Rattle.bits.specs.Field.{field}
 use Rattle.bits.specs.Fields.{Bytes}
-use Rattle.bits.specs.Crc.{crc}
+use Rattle.bits.specs.Crc.{crc, threeBytes, summed}
 use Rattle.bits.proofs.FieldLaws.{field-split, byte-field}
 use Rattle.bits.proofs.PartLaws.{field-drop}
+use Rattle.bits.proofs.ThreeLaws.{three-field, three-back, back-three}
 use Rattle.bits.proofs.CrcLaws.{crc-below}
-use Rattle.frames.specs.Frame.{dataLength, sentSum, ownSum, Whole, wholeOf, check, partOf, framePart, dataPart, threeBytes, header, summed, frameOf, writeFrame}
-use Rattle.frames.proofs.FrameLaws.{three-field, length-low, length-small, Good, good-tells, good-passes}
+use Rattle.frames.specs.Frame.{dataLength, sentSum, ownSum, Whole, wholeOf, check, partOf, framePart, dataPart, header, frameOf, writeFrame}
+use Rattle.frames.proofs.FrameLaws.{length-low, length-small, Good, good-tells, good-passes}
 use Rattle.frames.proofs.AppendLaws.{check-append}
 use Rattle.frames.proofs.WriteLaws.{is-framed, header-bytes}
-
--- three bytes of a number of 24 bits are that number
-three-back : (v : ℕ) → v < 2 ^ 24 → field (threeBytes v) 0 24 ≡ v
-three-back v h = three-field (threeBytes v) 0 ∙ omega arith
-
--- three bytes of the data are those of their number
-back-three : (s : List ℕ) (i : ℕ) → Bytes s → i + 3 ≤ length s → take 3 (drop i s) ≡ threeBytes (field s (i * 8) 24)
-back-three s i b h =
-    let f = three-field s i in
-    let x : getD s i 0 ≡ field s (i * 8) 24 / 2 ^ 16 = omega (arith, b .byte i, b .byte (i + 1), b .byte (i + 2)) in
-    let y : getD s (i + 1) 0 ≡ field s (i * 8) 24 / 2 ^ 8 % 2 ^ 8 = omega (arith, b .byte i, b .byte (i + 1), b .byte (i + 2)) in
-    let z : getD s (i + 2) 0 ≡ field s (i * 8) 24 % 2 ^ 8 = omega (arith, b .byte i, b .byte (i + 1), b .byte (i + 2)) in
-    let j : suc i ≡ i + 1 = omega arith in
-    let k : suc (suc i) ≡ i + 2 = omega arith in
-    ap (take 3) (drop-cons s i 0 (omega arith))
-    ∙ ap (λ (l : List ℕ). getD s i 0 ∷ take 2 l) (drop-cons s (suc i) 0 (omega arith))
-    ∙ ap (λ (l : List ℕ). getD s i 0 ∷ getD s (suc i) 0 ∷ take 1 l) (drop-cons s (suc (suc i)) 0 (omega arith))
-    ∙ ap₂ (λ (m n : ℕ). getD s i 0 ∷ getD s m 0 ∷ getD s n 0 ∷ []) j k
-    ∙ rw (x, y, z)
 
 -- ---- a framed message passes the check
 

@@ -7,7 +7,7 @@ use native.Mathlib.Omega.{arith}
 use lib.ListN.{length, getD, List·getD-append}
 use lib.Dec.{leb, ltb, eqb}
 use borrow.Author.Tests.{le-leb, lt-leb, ltb-true, ltb-false}
-use Rattle.bits.specs.Told.{Accepted, notValid, incomplete}
+use Rattle.bits.specs.Told.{Accepted, badCheck, incomplete}
 use Rattle.frames.specs.Scan.{Decision, Skip, Take, Wait}
 use Rattle.frames.specs.Framing.{Lawful, decide}
 use Rattle.frames.specs.Frame.{dataLength, sentSum, ownSum, wholeOf, check}
@@ -80,13 +80,13 @@ rtcm-lawful =
 -- ---- the frame check decides
 
 module _ (s : List ℕ) where
-  by-sums : (c : Bool) → verdictIf true c s ≡ atD3 s (cond (not c) notValid (Accepted (wholeOf s)))
+  by-sums : (c : Bool) → verdictIf true c s ≡ atD3 (cond (not c) (badCheck (sentSum s) (ownSum s)) (Accepted (wholeOf s)))
   by-sums true = refl
   by-sums false = refl
 
   by-length : (few cut : Bool) → ltb (length s) 6 ≡ few → ltb (length s) (dataLength s + 6) ≡ cut → (c : Bool)
       → cond (leb (dataLength s + 6) (length s)) (verdictIf true c s) Wait
-      ≡ atD3 s (cond few incomplete (cond cut incomplete (cond (not c) notValid (Accepted (wholeOf s)))))
+      ≡ atD3 (cond few incomplete (cond cut incomplete (cond (not c) (badCheck (sentSum s) (ownSum s)) (Accepted (wholeOf s)))))
   by-length true cut e f c = let u : length s < 6 = ltb-true (length s) 6 e in rw (lt-leb (dataLength s + 6) (length s) (omega arith))
   by-length false true e f c = let u : length s < dataLength s + 6 = ltb-true (length s) (dataLength s + 6) f in rw (lt-leb (dataLength s + 6) (length s) u)
   by-length false false e f c =

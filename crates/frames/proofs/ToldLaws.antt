@@ -35,13 +35,14 @@ number (some n) = N.Is n
 
 checked : Told Whole → Checked
 checked (Accepted w) = C.Frame (w .length) (w .carried) (number (w .number)) (w .sum)
-checked (Refused n carried) = cond (eqb n 10) C.NotValid C.Incomplete
+checked (Refused n carried) = cond (eqb n 10) C.NoPreamble (cond (eqb n 14) (C.BadCheck (getD carried 0 0) (getD carried 1 0)) C.Incomplete)
 
 checked-again : (x : Checked) → checked (toldChecked x) ≡ x
 unfolding checked number
 checked-again (C.Frame n l N.Absent c) = refl
 checked-again (C.Frame n l (N.Is m) c) = refl
-checked-again C.NotValid = refl
+checked-again C.NoPreamble = refl
+checked-again (C.BadCheck sent computed) = refl
 checked-again C.Incomplete = refl
 
 pub checked-one-to-one : OneToOne toldChecked

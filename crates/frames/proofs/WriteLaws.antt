@@ -9,10 +9,10 @@ use borrow.Author.Tests.{lt-ltb, le-ltb}
 use Rattle.bits.specs.Told.{Accepted, size, room}
 use Rattle.bits.specs.Outcome.{outcome}
 use Rattle.bits.proofs.OutcomeLaws.{Keeps, writing-keeps}
-use Rattle.bits.specs.Crc.{crc}
+use Rattle.bits.specs.Crc.{crc, threeBytes}
 use Rattle.bits.proofs.CrcLaws.{crc-below}
 use Rattle.bits.specs.Onto.{onto, over}
-use Rattle.frames.specs.Frame.{threeBytes, header, frameOf, frameLength, writeFrame}
+use Rattle.frames.specs.Frame.{header, frameOf, frameLength, writeFrame}
 use Rattle.bits.proofs.OntoLaws.{over-zero, over-onto}
 
 module _ (d out : List ℕ) where

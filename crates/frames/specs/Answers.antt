@@ -1,7 +1,7 @@
 -- What each answer of the code tells. Assumes nothing.
 use mathlib.Core.Option.{Option, none, some}
 use Prim.Native.Nat.{ℕ}
-use Rattle.bits.specs.Told.{Told, Accepted, size, room, notValid, incomplete, state}
+use Rattle.bits.specs.Told.{Told, Accepted, size, room, noPreamble, badCheck, incomplete, state}
 use Rattle.frames.specs.Frame.{Whole}
 use Rattle.frames.specs.Call as call
 use Rattle.frames.specs.Call.{FedAnswer}
@@ -23,10 +23,11 @@ abbrev pub toldNumber : Number → Option ℕ
 toldNumber N.Absent = none
 toldNumber (N.Is n) = some n
 
--- the frame check: a good frame, or NotValid, Incomplete
+-- the frame check: a good frame, or NoPreamble, BadCheck with the checksums sent and computed, Incomplete
 abbrev pub toldChecked : Checked → Told Whole
 toldChecked (C.Frame n l m c) = Accepted (record { length = n; carried = l; number = toldNumber m; sum = c })
-toldChecked C.NotValid = notValid
+toldChecked C.NoPreamble = noPreamble
+toldChecked (C.BadCheck sent computed) = badCheck sent computed
 toldChecked C.Incomplete = incomplete
 
 -- framing: the frame's length, or Size, Room with that length

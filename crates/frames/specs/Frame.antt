@@ -2,15 +2,15 @@
 use mathlib.Core.Bool.{cond, not}
 use mathlib.Core.List.{List, [], _∷_, _++_}
 use mathlib.Core.Option.{Option, none, some}
-use Prim.Native.Nat.{ℕ, _+_, _*_, _/_, _%_, _^_}
-use lib.ListN.{length, getD, take}
+use Prim.Native.Nat.{ℕ, _+_, _-_, _*_, _/_, _%_, _^_}
+use lib.ListN.{length, getD, take, drop}
 use lib.Dec.{ltb, eqb}
-use Rattle.bits.specs.Told.{Told, Accepted, Refused, size, room, notValid, incomplete}
+use Rattle.bits.specs.Told.{Told, Accepted, Refused, size, room, noPreamble, badCheck, incomplete}
 use Rattle.bits.specs.Outcome.{Outcome, outcome, refusing}
 use Rattle.bits.specs.Field.{field}
-use Rattle.bits.specs.Crc.{crc}
+use Rattle.bits.specs.Crc.{crc, summed}
 use Rattle.bits.specs.Onto.{onto}
-use Rattle.frames.specs.Part.{Part, part}
+use Rattle.bits.specs.Part.{Part, part}
 
 -- ---- reading
 
@@ -26,9 +26,13 @@ sentSum s = field s ((dataLength s + 3) * 8) 24
 abbrev pub ownSum : List ℕ → ℕ
 ownSum s = crc (take (dataLength s + 3) s)
 
--- the message number: the first 12 data bits if L is at least 2, else absent
+-- the L data bytes behind the first three
+abbrev pub dataOf : List ℕ → List ℕ
+dataOf s = take (dataLength s) (drop 3 s)
+
+-- the message number of data: their first 12 bits if they are at least two bytes, else absent
 abbrev pub numberOf : List ℕ → Option ℕ
-numberOf s = cond (ltb (dataLength s) 2) none (some (field s 24 12))
+numberOf d = cond (ltb (length d) 2) none (some (field d 0 12))
 
 -- a good frame: its length, that of its data, its message number and its checksum
 pub record Whole : Type 0 where
@@ -39,15 +43,15 @@ pub record Whole : Type 0 where
 
 -- the frame at the start of s
 abbrev pub wholeOf : List ℕ → Whole
-wholeOf s = record { length = dataLength s + 6; carried = dataLength s; number = numberOf s; sum = sentSum s }
+wholeOf s = record { length = dataLength s + 6; carried = dataLength s; number = numberOf (dataOf s); sum = sentSum s }
 
--- The frame check of the first bytes of s, in its order: fewer than 6 bytes; the first byte is not D3; fewer than L + 6 bytes; the checksum differs.
+-- The frame check of the first bytes of s, in its order: fewer than 6 bytes; the first byte is not D3; fewer than L + 6 bytes; the checksum sent is not the one computed.
 unfoldable pub check : List ℕ → Told Whole
 check s =
     cond (ltb (length s) 6) incomplete
-    (cond (not (eqb (getD s 0 0) 0xD3)) notValid
+    (cond (not (eqb (getD s 0 0) 0xD3)) noPreamble
     (cond (ltb (length s) (dataLength s + 6)) incomplete
-    (cond (not (eqb (ownSum s) (sentSum s))) notValid
+    (cond (not (eqb (ownSum s) (sentSum s))) (badCheck (sentSum s) (ownSum s))
     (Accepted (wholeOf s)))))
 
 -- what a check hands out of s: as many bytes as it accepted, from place i on; none, at the start, if it refused
@@ -63,19 +67,15 @@ framePart s = partOf 0 (λ w. w .length) (check s) s
 abbrev pub dataPart : List ℕ → Part
 dataPart s = partOf 3 (λ w. w .carried) (check s) s
 
--- ---- writing
+-- the data of bytes that are known to be a frame: all but the first three and the last three; of fewer than 6 bytes none, at the start
+abbrev pub insidePart : List ℕ → Part
+insidePart s = cond (ltb (length s) 6) (part 0 0 s) (part 3 (length s - 6) s)
 
--- a number of 24 bits in three bytes, highest first
-abbrev pub threeBytes : ℕ → List ℕ
-threeBytes v = v / 2 ^ 16 ∷ v / 2 ^ 8 % 2 ^ 8 ∷ v % 2 ^ 8 ∷ []
+-- ---- writing
 
 -- the first three bytes of a frame with n data bytes: D3, the reserved bits 0 and the length
 abbrev pub header : ℕ → List ℕ
 header n = 0xD3 ∷ n / 2 ^ 8 ∷ n % 2 ^ 8 ∷ []
-
--- bytes, and their checksum behind them
-abbrev pub summed : List ℕ → List ℕ
-summed s = s ++ threeBytes (crc s)
 
 -- the frame of the data d
 unfoldable pub frameOf : List ℕ → List ℕ

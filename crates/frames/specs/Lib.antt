@@ -3,7 +3,6 @@ pub mod Framing
 pub mod Feed
 pub mod Call
 pub mod Offered
-pub mod Part
 pub mod Frame
 pub mod Rtcm
 pub mod Answers

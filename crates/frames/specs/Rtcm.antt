@@ -40,12 +40,12 @@ rtcm =
 
 -- ---- the same decision, by the frame check
 
--- At D3 the frame check decides: good, the frame is handed out; Incomplete (12), scanning stops there; NotValid, that one byte is skipped.
-abbrev pub atD3 : List ℕ → Told Whole → Decision Why Kind
-atD3 s (Accepted w) = Take Rtcm (w .length)
-atD3 s (Refused n carried) = cond (eqb n 12) Wait (Skip (BadCheck (sentSum s) (ownSum s)))
+-- At D3 the frame check decides: good, the frame is handed out; Incomplete (12), scanning stops there; BadCheck, that one byte is skipped, for the checksums that it carries.
+abbrev pub atD3 : Told Whole → Decision Why Kind
+atD3 (Accepted w) = Take Rtcm (w .length)
+atD3 (Refused n carried) = cond (eqb n 12) Wait (Skip (BadCheck (getD carried 0 0) (getD carried 1 0)))
 
 -- with no byte, wait; a byte other than D3 is skipped
 abbrev pub decideAt : List ℕ → Decision Why Kind
 decideAt [] = Wait
-decideAt (x ∷ s) = cond (eqb x 0xD3) (atD3 (x ∷ s) (check (x ∷ s))) (Skip NotD3)
+decideAt (x ∷ s) = cond (eqb x 0xD3) (atD3 (check (x ∷ s))) (Skip NotD3)

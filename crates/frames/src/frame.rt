@@ -5,9 +5,10 @@ ghost use lib.ListN.{length};
 ghost use Rattle.bits.specs.Outcome.{outcome};
 ghost use Rattle.bits.specs.Field.{field};
 ghost use Rattle.bits.specs.Onto.{over};
-ghost use Rattle.frames.specs.Part.{lent, within};
-ghost use Rattle.frames.specs.Frame.{check, framePart, dataPart, threeBytes, writeFrame};
-ghost use Rattle.frames.specs.Answers.{toldChecked, toldFramed};
+ghost use Rattle.bits.specs.Part.{lent, within};
+ghost use Rattle.bits.specs.Crc.{threeBytes};
+ghost use Rattle.frames.specs.Frame.{numberOf, check, framePart, dataPart, insidePart, writeFrame};
+ghost use Rattle.frames.specs.Answers.{toldNumber, toldChecked, toldFramed};
 use bits::crc;
 
 // The message number of a frame's data: absent if they are fewer than two bytes.
@@ -17,7 +18,7 @@ pub enum Number {
 }
 
 // What the frame check answers: a good frame with its length, that of its data, its message number and its
-// checksum; or a refusal.
+// checksum; or a refusal, of which BadCheck carries the checksum sent and the one computed.
 pub enum Checked {
     Frame {
         length: usize,
@@ -25,7 +26,11 @@ pub enum Checked {
         number: Number,
         sum: u32,
     },
-    NotValid,
+    NoPreamble,
+    BadCheck {
+        sent: u32,
+        computed: u32,
+    },
     Incomplete,
 }
 
@@ -45,31 +50,33 @@ pub fn check(bytes: &[u8]) -> Checked
         return Checked::Incomplete;
     }
     if bytes[0] != 0xD3 {
-        return Checked::NotValid;
+        return Checked::NoPreamble;
     }
     let n = (three_at(bytes, 0) % 1024) as usize;
     if bytes.len() < n + 6 {
         return Checked::Incomplete;
     }
-    let sum = three_at(bytes, n + 3);
-    if crc::crc24q(&bytes[0..n + 3]) != sum {
-        return Checked::NotValid;
+    let sent = three_at(bytes, n + 3);
+    let computed = crc::crc24q(&bytes[0..n + 3]);
+    if computed != sent {
+        return Checked::BadCheck { sent, computed };
     }
-    if n < 2 {
-        return Checked::Frame {
-            length: n + 6,
-            data: n,
-            number: Number::Absent,
-            sum,
-        };
-    }
-    let number = (three_at(bytes, 3) / 4096) as u16;
     Checked::Frame {
         length: n + 6,
         data: n,
-        number: Number::Is(number),
-        sum,
+        number: number_of(&bytes[3..n + 3]),
+        sum: sent,
     }
+}
+
+// The message number of a frame's data.
+pub fn number_of(data: &[u8]) -> Number
+    ensures { λ r. ⌜ toldNumber r ≡ numberOf (now («data» .entry)) ⌝ }
+{
+    if data.len() < 2 {
+        return Number::Absent;
+    }
+    Number::Is(((wide(data[0]) * 0x100 + wide(data[1])) / 16) as u16)
 }
 
 // The whole frame at the start of the bytes, as a part of them: empty if the check refuses.
@@ -90,6 +97,18 @@ pub fn data_part(bytes: &[u8]) -> &[u8]
         return &bytes[0..0];
     };
     &bytes[3..data + 3]
+}
+
+// The data of bytes that are known to be a frame, as a part of them, with no check: all but the first three bytes and the
+// last three. Empty, at their start, for fewer than 6 bytes.
+pub fn data_of(frame: &[u8]) -> &[u8]
+    ensures { λ r. ⌜ lent (r .ptr) (now r) ≡ within (frame .entry .ptr) (insidePart (now (frame .entry))) ⌝ }
+{
+    let n = frame.len();
+    if n < 6 {
+        return &frame[0..0];
+    }
+    &frame[3..n - 3]
 }
 
 // Writes the frame of the data to the front of the output.

@@ -5,7 +5,7 @@ use mathlib.Core.Option.{none}
 use Prim.Native.Nat.{ℕ}
 use lib.ListN.{replicate}
 use lib.IntN.{ℤ, pos, negsuc}
-use Rattle.bits.specs.Told.{Told, Accepted, range, notValid, incomplete}
+use Rattle.bits.specs.Told.{Told, Accepted, range, badCheck, incomplete}
 use Rattle.bits.specs.Outcome.{Outcome, outcome}
 use Rattle.bits.specs.Field.{Reading, reading, readUnsigned, readTwos, readSignmag, writeTwos}
 use Rattle.bits.specs.Crc.{crc}
@@ -64,8 +64,8 @@ examples =
     -- 2. D3 00 00 47 EA 4B: frame of 6, no number; the same with 00 00 behind it.
     Check (0xD3 ∷ 0x00 ∷ 0x00 ∷ 0x47 ∷ 0xEA ∷ 0x4B ∷ []) (Accepted (record { length = 6; carried = 0; number = none; sum = 0x47EA4B })) ∷
     Check (0xD3 ∷ 0x00 ∷ 0x00 ∷ 0x47 ∷ 0xEA ∷ 0x4B ∷ 0x00 ∷ 0x00 ∷ []) (Accepted (record { length = 6; carried = 0; number = none; sum = 0x47EA4B })) ∷
-    -- 3. D3 00 00 47 EA 4A: NotValid. No bytes: Incomplete.
-    Check (0xD3 ∷ 0x00 ∷ 0x00 ∷ 0x47 ∷ 0xEA ∷ 0x4A ∷ []) notValid ∷
+    -- 3. D3 00 00 47 EA 4A: BadCheck, 47EA4A sent and 47EA4B computed. No bytes: Incomplete.
+    Check (0xD3 ∷ 0x00 ∷ 0x00 ∷ 0x47 ∷ 0xEA ∷ 0x4A ∷ []) (badCheck 0x47EA4A 0x47EA4B) ∷
     Check [] incomplete ∷
     -- 4. D3 00 00 D3 00 00 47 EA 4B: 3 skipped, one frame.
     Scan (0xD3 ∷ 0x00 ∷ 0x00 ∷ empty) 3 (empty ∷ []) [] ∷

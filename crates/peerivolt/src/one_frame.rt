@@ -15,7 +15,7 @@ use frames::frame::Framed;
 use frames::frame::Number;
 
 // Checks the frame at the start of the bytes. Extra: its length, that of its data, 1 and the message number or 0 and 0,
-// and the checksum.
+// and the checksum; of BadCheck the checksum sent and the one computed.
 #[no_mangle]
 pub extern "C" fn pv_frame_check(bytes: &[u8], extra: &mut [u64]) -> u32
     ensures { λ r. ⌜ returned r (now (extra .exit)) tt ≡ reads wholeValues (check (now (bytes .entry))) (now (extra .entry)) ⌝ }
@@ -47,7 +47,8 @@ fn checked(answer: Checked) -> Reply
             number,
             sum,
         } => whole(length as u64, data as u64, number, sum as u64),
-        Checked::NotValid => extra::bare(10),
+        Checked::NoPreamble => extra::bare(10),
+        Checked::BadCheck { sent, computed } => extra::with_two(14, sent as u64, computed as u64),
         Checked::Incomplete => extra::bare(12),
     }
 }

@@ -10,6 +10,7 @@ use std::num;
 pub mod arguments;
 mod number;
 
+pub use number::frame_of;
 pub use number::number_of;
 
 // How far a recording is read. Each byte is in a frame, skipped, held, or in the part of the piece from `from` to `to`,

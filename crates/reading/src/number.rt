@@ -1,22 +1,25 @@
-// The message number of a frame that is handed out, taken from its own bytes.
+// A frame that is handed out, and its message number, taken from its own bytes with no check.
 ghost use mathlib.Core.Path.{_≡_};
-ghost use Rattle.reading.specs.Number.{numberOf};
-use bits::field;
-use bits::field::Unsigned;
+ghost use Rattle.reading.specs.Number.{frameIn, numberIn};
+use frames::frame;
+use frames::frame::Number;
 
-// The first 12 data bits of the frame of so many bytes at the front of the area; 4,096 if its data are fewer than two
-// bytes.
-pub fn number_of(area: &[u8], length: usize) -> u64
-    ensures { λ r. ⌜ r ≡ numberOf (now (area .entry)) length ⌝ }
+// The frame of so many bytes at the front of the area.
+pub fn frame_of(area: &[u8], length: usize) -> &[u8]
+    ensures { λ r. ⌜ now r ≡ frameIn (now (area .entry)) length ⌝ }
 {
-    if length < 8 {
-        return 4096;
+    if area.len() < length {
+        return &area[0..0];
     }
-    if area.len() < 8 {
-        return 4096;
+    &area[0..length]
+}
+
+// The message number of a frame; 4,096 if its data are fewer than two bytes.
+pub fn number_of(frame: &[u8]) -> u64
+    ensures { λ r. ⌜ r ≡ numberIn (now (frame .entry)) ⌝ }
+{
+    match frame::number_of(frame::data_of(frame)) {
+        Number::Is(number) => number as u64,
+        Number::Absent => 4096,
     }
-    let Unsigned::Value(number, _) = field::read_unsigned(&area[0..8], 24, 12) else {
-        return 4096;
-    };
-    number
 }

@@ -123,14 +123,15 @@ fn show_frame(
     out: &mut [u8; 65536],
     at: &mut usize,
 ) -> Tally {
-    let number = reading::number_of(bytes, length);
+    let frame = reading::frame_of(bytes, length);
+    let number = reading::number_of(frame);
     let usual = usual_start(number);
     if usual == 0 {
         return tally;
     }
     table::block(
         number,
-        frame::data_part(bytes),
+        frame::data_of(frame),
         place,
         options::bit(start, usual),
         tally,

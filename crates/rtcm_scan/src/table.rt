@@ -27,7 +27,7 @@ pub fn frame(
     bytes: &[u8; 1029],
     numbers: &mut [u64; 4097],
 ) {
-    let number = reading::number_of(bytes, length);
+    let number = reading::number_of(reading::frame_of(bytes, length));
     count(numbers, number);
     if !quiet {
         unsigned(out, at, place, 12);

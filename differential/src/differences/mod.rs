@@ -174,9 +174,10 @@ fn refusal(told: &Told) -> Option<String> {
         pv::DUPLICATE => "Duplicate",
         pv::ROOM => "Room",
         pv::SIZE => "Size",
-        pv::NOT_VALID => "NotValid",
+        pv::NO_PREAMBLE => "NoPreamble",
         pv::STATE => "State",
         pv::INCOMPLETE => "Incomplete",
+        pv::BAD_CHECK => "BadCheck",
         _ => "a number without a name",
     };
     let carries = matches!(told.number, pv::SHORT | pv::RANGE..=pv::ROOM);

@@ -26,7 +26,7 @@ impl Stream {
                     scanned.frames.push((scanned.consumed, len));
                     scanned.consumed += len;
                 }
-                pv::NOT_VALID => scanned.consumed += 1,
+                pv::BAD_CHECK => scanned.consumed += 1,
                 _ => break,
             }
         }

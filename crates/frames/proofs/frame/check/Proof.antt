@@ -1,10 +1,7 @@
 -- Each return is a case of the check's definition. Assumes nothing.
-use mathlib.Core.Path.{ap, _∙_}
-use mathlib.Core.Option.{none, some}
-use Prim.Native.Nat.{ℕ, _/_, _^_}
 use native.Mathlib.Omega.{arith}
 use borrow.Author.Needs.{needs}
-use Rattle.frames.proofs.FrameLaws.{too-few, no-start, length-at, cut-at, differ-at, agree-at, number-absent, number-is, number-high}
+use Rattle.frames.proofs.FrameLaws.{too-few, no-start, length-at, cut-at, differ-at, agree-at}
 use Rattle.frames.proofs.frame.check.Statement.{statement}
 use Rattle.frames.proofs.frame.check.Tie as tie
 
@@ -58,33 +55,29 @@ returns-4 c =
     differ-at s _ (omega arith) (c .before .before .before .before .before .before .if2 .left) (length-at s _ (c .before .before .before .before .before .three-at .ensures .0))
     _ _ (omega arith) (c .before .crc24q .ensures) (c .before .before .before .three-at2 .ensures .0) (c .if4 .taken)
 
-add-t15 : tie.Need-add-t15
-add-t15 c = search needs
-
-returns-5 : tie.Need-returns-5
-returns-5 c =
-    let s = c .before .before .before .before .before .before .before .before .before .before .before .args .bytes .now in
-    let e = length-at s _ (c .before .before .before .before .before .before .three-at .ensures .0) in
-    agree-at s _ (omega arith) (c .before .before .before .before .before .before .before .if2 .left) e
-    _ _ (omega arith) (c .before .before .crc24q .ensures) (c .before .before .before .before .three-at2 .ensures .0) (c .before .if4 .left)
-    none (number-absent s (omega arith))
-
-three-at-requires-3 : tie.Need-three-at-requires-3
-three-at-requires-3 c κs = search needs
-
-cast-number : tie.Need-cast-number
-cast-number c = search needs
-
 add-t5 : tie.Need-add-t5
 add-t5 c = search needs
 
-returns-6 : tie.Need-returns-6
-returns-6 c =
+add-number-of : tie.Need-add-number-of
+add-number-of c = search needs
+
+sub-number-of : tie.Need-sub-number-of
+sub-number-of c = search needs
+
+part-number-of-start : tie.Need-part-number-of-start
+part-number-of-start c = search needs
+
+part-number-of-end : tie.Need-part-number-of-end
+part-number-of-end c = search needs
+
+number-of-requires : tie.Need-number-of-requires
+number-of-requires c κs = search needs
+
+returns-5 : tie.Need-returns-5
+returns-5 c =
     let s = c .before .before .before .before .before .before .before .before .before .before .before .before .args .bytes .now in
-    let e = length-at s _ (c .before .before .before .before .before .before .before .three-at .ensures .0) in
-    agree-at s _ (omega arith) (c .before .before .before .before .before .before .before .before .if2 .left) e
-    _ _ (omega arith) (c .before .before .before .crc24q .ensures) (c .before .before .before .before .before .three-at2 .ensures .0) (c .before .before .if4 .left)
-    _ (ap some (ap (λ (x : ℕ). x / 2 ^ 12) (c .three-at3 .ensures .0) ∙ number-high s) ∙ number-is s (omega arith))
+    agree-at s _ (omega arith) (c .before .before .before .before .before .before .before .before .if2 .left) (length-at s _ (c .before .before .before .before .before .before .before .three-at .ensures .0))
+    _ _ (omega arith) (c .before .before .before .crc24q .ensures) (c .before .before .before .before .before .three-at2 .ensures .0) (c .before .before .if4 .left) _ (c .number-of .ensures)
 
 pub check-spec : {M : Type 1} → statement M
 check-spec =
@@ -105,9 +98,10 @@ check-spec =
     part-crc24q-end
     crc24q-requires
     returns-4
-    add-t15
-    returns-5
-    three-at-requires-3
-    cast-number
     add-t5
-    returns-6)
+    add-number-of
+    sub-number-of
+    part-number-of-start
+    part-number-of-end
+    number-of-requires
+    returns-5)

@@ -5,7 +5,7 @@ use native.Mathlib.Omega.{arith}
 use lib.ListN.{set, length-set}
 use lib.Seq.{sets-eq}
 use borrow.Author.Needs.{needs}
-use Rattle.frames.specs.Frame.{threeBytes}
+use Rattle.bits.specs.Crc.{threeBytes}
 use Rattle.frames.proofs.frame.put_three.Statement.{statement}
 use Rattle.frames.proofs.frame.put_three.Tie as tie
 

@@ -16,12 +16,6 @@ cast-whole c = search needs
 whole-requires : tie.Need-whole-requires
 whole-requires c κs = search needs
 
-enum-told : tie.Need-enum-told
-enum-told c = search needs
-
-enum-told-2 : tie.Need-enum-told-2
-enum-told-2 c = search needs
-
 returns : tie.Need-returns
 returns c = c .whole .ensures ∙ tells wholeValues toldChecked (c .before .before .answer .given .1)
 
@@ -29,7 +23,10 @@ returns-2 : tie.Need-returns-2
 returns-2 c = c .bare .ensures ∙ tells wholeValues toldChecked (c .before .enum-told .given .1)
 
 returns-3 : tie.Need-returns-3
-returns-3 c = c .bare2 .ensures ∙ tells wholeValues toldChecked (c .before .enum-told2 .given .1)
+returns-3 c = c .with-two .ensures ∙ tells wholeValues toldChecked (c .before .before .answer2 .given .1)
+
+returns-4 : tie.Need-returns-4
+returns-4 c = c .bare2 .ensures ∙ tells wholeValues toldChecked (c .before .enum-told2 .given .1)
 
 pub checked-spec : {M : Type 1} → statement M
 checked-spec =
@@ -38,10 +35,15 @@ checked-spec =
     enum-known-answer
     cast-whole
     whole-requires
-    enum-told
+    (λ c. search needs)
     (λ c κs. search needs)
-    enum-told-2
+    (λ c. search needs)
+    (λ c. search needs)
+    (λ c. search needs)
+    (λ c κs. search needs)
+    (λ c. search needs)
     (λ c κs. search needs)
     returns
     returns-2
-    returns-3)
+    returns-3
+    returns-4)
