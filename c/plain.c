@@ -115,6 +115,12 @@ static void put_bits(uint8_t *data, size_t start, size_t width, uint64_t value)
     }
 }
 
+/* The refusal of a field that does not fit, and how many of its bits are missing. */
+static uint32_t cut(uint64_t *extra, size_t data_len, size_t start, size_t width)
+{
+    return answer(extra, PV_SHORT, start, start >= data_len * 8 ? width : start + width - data_len * 8);
+}
+
 uint32_t PLAIN(field_read_unsigned)(const uint8_t *data, size_t data_len, size_t start, size_t width,
                                     uint64_t *extra, size_t extra_len)
 {
@@ -125,7 +131,7 @@ uint32_t PLAIN(field_read_unsigned)(const uint8_t *data, size_t data_len, size_t
     if (width == 0 || width > 64)
         return answer(extra, PV_WIDTH, 0, 0);
     if (!fits_in(data_len, start, width))
-        return answer(extra, PV_SHORT, start, 0);
+        return cut(extra, data_len, start, width);
     return answer(extra, PV_ACCEPTED, get_bits(data, start, width), 0);
 }
 
@@ -317,38 +323,42 @@ uint32_t PLAIN(feed)(uint8_t *held, size_t held_len, size_t held_count, const ui
 
 /* ---- The 1059 block. ---- */
 
-/* The place of the first field that does not fit, where the biases from `place` on do not. */
-static size_t short_place(size_t data_len, size_t place)
+/* Moves *place to the first field that does not fit, where the biases from it on do not, and gives the field's width. */
+static size_t short_width(size_t data_len, size_t *place)
 {
-    while (fits_in(data_len, place, 19))
-        place += 19;
-    return fits_in(data_len, place, 5) ? place + 5 : place;
+    while (fits_in(data_len, *place, 19))
+        *place += 19;
+    if (!fits_in(data_len, *place, 5))
+        return 5;
+    *place += 5;
+    return 14;
 }
 
-/* Walks over a block. Gives PV_SHORT with its place in *end, or 0 with the records and the bit behind the block. */
-static uint32_t measure_1059(const uint8_t *data, size_t data_len, size_t start, size_t *records, size_t *end)
+/* Walks over a block. Gives the width of the field that does not fit, with its place in *end; or 0 with the records and
+   the bit behind the block. */
+static size_t measure_1059(const uint8_t *data, size_t data_len, size_t start, size_t *records, size_t *end)
 {
     *end = start;
     *records = 0;
     if (!fits_in(data_len, start, 6))
-        return PV_SHORT;
+        return 6;
     size_t satellites = get_bits(data, start, 6);
     *end += 6;
     for (; satellites > 0; satellites--) {
+        if (!fits_in(data_len, *end, 6))
+            return 6;
         if (!fits_in(data_len, *end, 11)) {
-            *end += fits_in(data_len, *end, 6) ? 6 : 0;
-            return PV_SHORT;
+            *end += 6;
+            return 5;
         }
         size_t biases = get_bits(data, *end + 6, 5);
         *end += 11;
-        if (!fits_in(data_len, *end, 19 * biases)) {
-            *end = short_place(data_len, *end);
-            return PV_SHORT;
-        }
+        if (!fits_in(data_len, *end, 19 * biases))
+            return short_width(data_len, end);
         *records += biases;
         *end += 19 * biases;
     }
-    return PV_ACCEPTED;
+    return 0;
 }
 
 uint32_t PLAIN(1059_read)(const uint8_t *data, size_t data_len, size_t start, uint8_t *satellites,
@@ -360,8 +370,9 @@ uint32_t PLAIN(1059_read)(const uint8_t *data, size_t data_len, size_t start, ui
     if (data_len > PV_DATA_MAX || satellites_len != signals_len || satellites_len != biases_len)
         return answer(extra, PV_SIZE, 0, 0);
     size_t records, end;
-    if (measure_1059(data, data_len, start, &records, &end) != PV_ACCEPTED)
-        return answer(extra, PV_SHORT, end, 0);
+    size_t width = measure_1059(data, data_len, start, &records, &end);
+    if (width != 0)
+        return cut(extra, data_len, end, width);
     if (satellites_len < records)
         return answer(extra, PV_ROOM, records, 0);
     size_t place = start + 6;
@@ -468,13 +479,13 @@ uint32_t PLAIN(1230_read)(const uint8_t *data, size_t data_len, size_t start, ui
     if (data_len > PV_DATA_MAX || signals_len != biases_len)
         return answer(extra, PV_SIZE, 0, 0);
     if (!fits_in(data_len, start, 4))
-        return answer(extra, PV_SHORT, start, 0);
+        return cut(extra, data_len, start, 4);
     unsigned mask = (unsigned)get_bits(data, start, 4);
     size_t records = (mask & 1) + (mask >> 1 & 1) + (mask >> 2 & 1) + (mask >> 3);
     size_t place = start + 4;
     for (size_t i = 0; i < records; i++)
         if (!fits_in(data_len, place + 16 * i, 16))
-            return answer(extra, PV_SHORT, place + 16 * i, 0);
+            return cut(extra, data_len, place + 16 * i, 16);
     if (signals_len < records)
         return answer(extra, PV_ROOM, records, 0);
     size_t i = 0;

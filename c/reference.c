@@ -30,6 +30,13 @@ static uint32_t refuse_two(uint64_t *extra, uint32_t number, uint64_t carried, u
     return number;
 }
 
+/* A field that does not fit: its start, and how many of its bits lie behind the data, or all where it starts there. */
+static uint32_t refuse_short(uint64_t *extra, size_t data_len, size_t start, size_t width)
+{
+    size_t end = data_len * 8;
+    return refuse_two(extra, PV_SHORT, start, start >= end ? width : start + width - end);
+}
+
 static uint32_t accept_one(uint64_t *extra, uint64_t first)
 {
     clear(extra);
@@ -139,7 +146,7 @@ static uint32_t read_field(enum reading reading, const uint8_t *data, size_t dat
     if (width == 0 || width > 64)
         return refuse(extra, PV_WIDTH, 0);
     if (!fits_in(data_len, start, width))
-        return refuse(extra, PV_SHORT, start);
+        return refuse_short(extra, data_len, start, width);
     uint64_t field = get_field(data, start, width);
     if (reading == TWOS)
         field = as_twos(field, width);
@@ -374,13 +381,17 @@ struct cursor {
     const uint8_t *data;
     size_t data_len;
     size_t place;
-    int is_short; /* Once set, `place` is where the field that did not fit starts. */
+    int is_short; /* Once set, `place` is where the field that did not fit starts, */
+    size_t width; /* and `width` is how many bits it has. */
 };
 
 static uint64_t next_field(struct cursor *cursor, size_t width)
 {
-    if (cursor->is_short || !fits_in(cursor->data_len, cursor->place, width)) {
+    if (cursor->is_short)
+        return 0;
+    if (!fits_in(cursor->data_len, cursor->place, width)) {
         cursor->is_short = 1;
+        cursor->width = width;
         return 0;
     }
     uint64_t value = get_field(cursor->data, cursor->place, width);
@@ -424,13 +435,13 @@ uint32_t ref_1059_read(const uint8_t *data, size_t data_len, size_t start, uint8
         return PV_SIZE;
     if (data_len > PV_DATA_MAX || satellites_len != signals_len || satellites_len != biases_len)
         return refuse(extra, PV_SIZE, 0);
-    struct cursor cursor = { data, data_len, start, 0 };
+    struct cursor cursor = { data, data_len, start, 0, 0 };
     struct records records = { .count = 0 };
     uint64_t satellite_count = next_field(&cursor, 6);
     for (uint64_t i = 0; i < satellite_count && !cursor.is_short; i++)
         read_satellite(&cursor, &records);
     if (cursor.is_short)
-        return refuse(extra, PV_SHORT, cursor.place);
+        return refuse_short(extra, data_len, cursor.place, cursor.width);
     if (satellites_len < records.count)
         return refuse(extra, PV_ROOM, records.count);
     for (size_t i = 0; i < records.count; i++) {
@@ -448,7 +459,7 @@ uint32_t ref_1230_read(const uint8_t *data, size_t data_len, size_t start, uint8
         return PV_SIZE;
     if (data_len > PV_DATA_MAX || signals_len != biases_len)
         return refuse(extra, PV_SIZE, 0);
-    struct cursor cursor = { data, data_len, start, 0 };
+    struct cursor cursor = { data, data_len, start, 0, 0 };
     struct records records = { .count = 0 };
     uint64_t mask = next_field(&cursor, 4);
     for (size_t i = 0; i < 4 && !cursor.is_short; i++) {
@@ -459,7 +470,7 @@ uint32_t ref_1230_read(const uint8_t *data, size_t data_len, size_t start, uint8
             add_record(&records, 0, signals_1230[i], as_twos(bias, 16));
     }
     if (cursor.is_short)
-        return refuse(extra, PV_SHORT, cursor.place);
+        return refuse_short(extra, data_len, cursor.place, cursor.width);
     if (signals_len < records.count)
         return refuse(extra, PV_ROOM, records.count);
     for (size_t i = 0; i < records.count; i++) {

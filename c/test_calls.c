@@ -212,18 +212,22 @@ static void field_read_refusals(read_field *read)
     REFUSED(read(DATA, 0, 65, EXTRA), PV_WIDTH, 0);
     REFUSED(read(DATA, 0, SIZE_MAX, EXTRA), PV_WIDTH, 0);
     ACCEPTED(read(DATA, 8184 - 64, 64, EXTRA), 0);
-    REFUSED(read(DATA, 8184 - 63, 64, EXTRA), PV_SHORT, 8184 - 63);
+    REFUSED_TWO(read(DATA, 8184 - 63, 64, EXTRA), PV_SHORT, 8184 - 63, 1);
     ACCEPTED(read(DATA, 8183, 1, EXTRA), 0);
-    REFUSED(read(DATA, 8184, 1, EXTRA), PV_SHORT, 8184);
-    REFUSED(read(DATA, SIZE_MAX, 1, EXTRA), PV_SHORT, SIZE_MAX);
-    REFUSED(read(DATA, SIZE_MAX - 63, 64, EXTRA), PV_SHORT, SIZE_MAX - 63);
-    REFUSED(read(DATA, SIZE_MAX - 62, 64, EXTRA), PV_SHORT, SIZE_MAX - 62);
-    REFUSED(read(DATA, SIZE_MAX / 8 + 1, 8, EXTRA), PV_SHORT, SIZE_MAX / 8 + 1);
-    REFUSED(read(NULL, 0, 0, 1, EXTRA), PV_SHORT, 0);
+    REFUSED_TWO(read(DATA, 8184, 1, EXTRA), PV_SHORT, 8184, 1);
+    REFUSED_TWO(read(DATA, SIZE_MAX, 1, EXTRA), PV_SHORT, SIZE_MAX, 1);
+    REFUSED_TWO(read(DATA, SIZE_MAX - 63, 64, EXTRA), PV_SHORT, SIZE_MAX - 63, 64);
+    REFUSED_TWO(read(DATA, SIZE_MAX - 62, 64, EXTRA), PV_SHORT, SIZE_MAX - 62, 64);
+    REFUSED_TWO(read(DATA, SIZE_MAX / 8 + 1, 8, EXTRA), PV_SHORT, SIZE_MAX / 8 + 1, 8);
+    REFUSED_TWO(read(NULL, 0, 0, 1, EXTRA), PV_SHORT, 0, 1);
+    REFUSED_TWO(read(NULL, 0, 0, 64, EXTRA), PV_SHORT, 0, 64);
+    REFUSED_TWO(read(NULL, 0, SIZE_MAX, 64, EXTRA), PV_SHORT, SIZE_MAX, 64);
     REFUSED(read(NULL, 0, 7, 0, EXTRA), PV_WIDTH, 0);
     LEND(data, 0xFF);
-    REFUSED(read(DATA, 1, 8, EXTRA), PV_SHORT, 1);
-    REFUSED(read(DATA, 0, 9, EXTRA), PV_SHORT, 0);
+    REFUSED_TWO(read(DATA, 1, 8, EXTRA), PV_SHORT, 1, 1);
+    REFUSED_TWO(read(DATA, 7, 64, EXTRA), PV_SHORT, 7, 63);
+    REFUSED_TWO(read(DATA, 8, 64, EXTRA), PV_SHORT, 8, 64);
+    REFUSED_TWO(read(DATA, 0, 9, EXTRA), PV_SHORT, 0, 1);
 }
 
 static void field_values(void)
@@ -530,15 +534,16 @@ static void read_1059_refusals(void)
     REFUSED(pv_1059_read(DATA, 0, LISTS_1059, EXTRA), PV_SIZE, 0);
     lend_1059(0);
     ACCEPTED(pv_1059_read(DATA, 2, NULL, 0, NULL, 0, NULL, 0, EXTRA), 0, 8);
-    REFUSED(pv_1059_read(DATA, 3, LISTS_1059, EXTRA), PV_SHORT, 3);
-    REFUSED(pv_1059_read(DATA, SIZE_MAX, LISTS_1059, EXTRA), PV_SHORT, SIZE_MAX);
-    REFUSED(pv_1059_read(NULL, 0, 0, LISTS_1059, EXTRA), PV_SHORT, 0);
+    REFUSED_TWO(pv_1059_read(DATA, 3, LISTS_1059, EXTRA), PV_SHORT, 3, 1);
+    REFUSED_TWO(pv_1059_read(DATA, SIZE_MAX, LISTS_1059, EXTRA), PV_SHORT, SIZE_MAX, 6);
+    REFUSED_TWO(pv_1059_read(NULL, 0, 0, LISTS_1059, EXTRA), PV_SHORT, 0, 6);
 }
 
-/* Cuts a block of two satellites with two biases each at every byte: the first field that does not fit is named. */
+/* Cuts a block of two satellites with two biases each at every byte: the first field that does not fit is named, and how
+   many of its bits are missing. */
 static void read_1059_short_places(void)
 {
-    static const size_t starts[] = { 0, 6, 12, 17, 22, 36, 41, 55, 61, 66, 71, 85, 90 };
+    static const size_t starts[] = { 0, 6, 12, 17, 22, 36, 41, 55, 61, 66, 71, 85, 90, 104 };
     uint8_t block[13];
     area_lend(&data, sizeof block, 0);
     lend_1059(4);
@@ -547,13 +552,15 @@ static void read_1059_short_places(void)
     ACCEPTED(pv_1059_write(DATA, 0, LISTS_1059, EXTRA), 104);
     memcpy(block, data.bytes, sizeof block);
     for (size_t n = 0; n < sizeof block; n++) {
-        size_t place = 0;
-        for (size_t i = 0; i < sizeof starts / sizeof starts[0]; i++)
-            if (starts[i] <= n * 8)
+        size_t place = 0, end = 0;
+        for (size_t i = 0; i + 1 < sizeof starts / sizeof starts[0]; i++)
+            if (starts[i] <= n * 8) {
                 place = starts[i];
+                end = starts[i + 1];
+            }
         lend_bytes(&data, block, n);
         lend_1059(n % 2 ? 4 : 0);
-        REFUSED(pv_1059_read(DATA, 0, LISTS_1059, EXTRA), PV_SHORT, place);
+        REFUSED_TWO(pv_1059_read(DATA, 0, LISTS_1059, EXTRA), PV_SHORT, place, end - n * 8);
     }
     lend_bytes(&data, block, sizeof block);
     lend_1059(3);
@@ -733,15 +740,17 @@ static void read_1230(void)
     REFUSED(pv_1230_read(DATA, SIZE_MAX, LISTS_1230, EXTRA), PV_SIZE, 0);
     lend_1230(0);
     ACCEPTED(pv_1230_read(DATA, 68, NULL, 0, NULL, 0, EXTRA), 0, 72);
-    REFUSED(pv_1230_read(DATA, 69, LISTS_1230, EXTRA), PV_SHORT, 69);
-    REFUSED(pv_1230_read(DATA, SIZE_MAX, LISTS_1230, EXTRA), PV_SHORT, SIZE_MAX);
-    REFUSED(pv_1230_read(NULL, 0, 0, LISTS_1230, EXTRA), PV_SHORT, 0);
+    REFUSED_TWO(pv_1230_read(DATA, 69, LISTS_1230, EXTRA), PV_SHORT, 69, 1);
+    REFUSED_TWO(pv_1230_read(DATA, SIZE_MAX, LISTS_1230, EXTRA), PV_SHORT, SIZE_MAX, 4);
+    REFUSED_TWO(pv_1230_read(NULL, 0, 0, LISTS_1230, EXTRA), PV_SHORT, 0, 4);
     LEND(data, 0xF0, 0x01, 0x00, 0x02, 0x00, 0x03, 0x7F, 0xFF, 0xFF);
     REFUSED(pv_1230_read(DATA, 0, LISTS_1230, EXTRA), PV_ROOM, 4);
     lend_1230(3);
     REFUSED(pv_1230_read(DATA, 0, LISTS_1230, EXTRA), PV_ROOM, 4);
-    for (size_t n = 1; n < 9; n++)
-        REFUSED(pv_1230_read(data.bytes, n, 0, LISTS_1230, EXTRA), PV_SHORT, 4 + (n * 8 - 4) / 16 * 16);
+    for (size_t n = 1; n < 9; n++) {
+        size_t place = 4 + (n * 8 - 4) / 16 * 16;
+        REFUSED_TWO(pv_1230_read(data.bytes, n, 0, LISTS_1230, EXTRA), PV_SHORT, place, place + 16 - n * 8);
+    }
     lend_1230(6);
     set_1230(4, 77, 78);
     ACCEPTED(pv_1230_read(DATA, 0, LISTS_1230, EXTRA), 4, 68);

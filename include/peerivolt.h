@@ -56,7 +56,7 @@ uint32_t pv_version(void);
 /* ---- Refusals: what a call returns, and what the refusal carries in extra[PV_AT_CARRIED]. ---- */
 
 #define PV_ACCEPTED 0u    /* Not refused. */
-#define PV_SHORT 1u       /* A field does not fit in the data. Carries the bit where the field starts. */
+#define PV_SHORT 1u       /* A field does not fit in the data. Carries the bit where the field starts, and how many of its bits are missing. */
 #define PV_WIDTH 2u       /* A width of 0 or above 64. */
 #define PV_RANGE 3u       /* A number does not fit its width. Carries the index of the record, or 0 for a single field. */
 #define PV_SIGNAL 4u      /* A signal to be written is not in the table. Carries the index of the record. */
@@ -103,7 +103,7 @@ static inline const char *pv_refusal_name(uint32_t number)
 /* ---- Places in the extra area. ---- */
 
 #define PV_AT_CARRIED 0     /* After any refusal. */
-#define PV_AT_CARRIED_TOO 1 /* After a refusal that carries two numbers: PV_BAD_CHECK. */
+#define PV_AT_CARRIED_TOO 1 /* After a refusal that carries two numbers: PV_SHORT, PV_BAD_CHECK. */
 
 #define PV_AT_FIELD_VALUE 0 /* Field read: the value. */
 #define PV_AT_FIELD_END 0   /* Field written: the bit behind the field. */
@@ -150,7 +150,8 @@ uint32_t pv_crc24q(const uint8_t *bytes, size_t bytes_len);
  * unsigned number, in two's complement, or as sign and magnitude, where the top bit is the sign and minus zero reads as
  * 0. Any start is allowed, also far past the end.
  *
- * Refuses, in this order: PV_SIZE (data above 1,023 bytes), PV_WIDTH, PV_SHORT (carries `start`).
+ * Refuses, in this order: PV_SIZE (data above 1,023 bytes), PV_WIDTH, PV_SHORT (carries `start`, and how many bits are
+ * missing: from the field's end back to the data's end, or to the field's start if that lies past it).
  * Answers: [PV_AT_FIELD_VALUE] the value; for the signed readings as int64_t.
  */
 uint32_t pv_field_read_unsigned(const uint8_t *data, size_t data_len, size_t start, size_t width,
@@ -245,8 +246,9 @@ uint32_t pv_feed(uint8_t *held, size_t held_len, size_t held_count, const uint8_
  * A reserved signal is kept as its number with its bias: a signal that is read need not be one that can be written.
  *
  * Refuses, in this order: PV_SIZE (data above 1,023 bytes, or lists of unequal length), PV_SHORT (carries the bit where
- * the first field that does not fit starts), PV_ROOM (more records in the block than places in the lists; carries how
- * many records there are). The whole block is read first, so PV_SHORT wins over PV_ROOM.
+ * the first field that does not fit starts, and how many of its bits are missing), PV_ROOM (more records in the block
+ * than places in the lists; carries how many records there are). The whole block is read first, so PV_SHORT wins over
+ * PV_ROOM.
  * Answers: [PV_AT_READ_RECORDS] the number of records; [PV_AT_READ_END] the bit behind the block.
  */
 uint32_t pv_1059_read(const uint8_t *data, size_t data_len, size_t start, uint8_t *satellites, size_t satellites_len,
@@ -281,7 +283,8 @@ float pv_1059_metres(int16_t raw);
  * 1230 the block starts at bit PV_1230_BLOCK_START (28), behind the header.
  *
  * Refuses, in this order: PV_SIZE (data above 1,023 bytes, or lists of unequal length), PV_SHORT (carries the bit where
- * the first field that does not fit starts), PV_ROOM (carries how many records there are).
+ * the first field that does not fit starts, and how many of its bits are missing), PV_ROOM (carries how many records
+ * there are).
  * Answers: [PV_AT_READ_RECORDS] the number of records, 0 to 4; [PV_AT_READ_END] the bit behind the block.
  */
 uint32_t pv_1230_read(const uint8_t *data, size_t data_len, size_t start, uint8_t *signals, size_t signals_len,

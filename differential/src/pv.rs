@@ -161,6 +161,11 @@ impl Told {
         Told::of(number, &[carried])
     }
 
+    /// Short: where the field starts, and how many of its bits are missing.
+    pub fn short(place: u64, missing: u64) -> Told {
+        Told::of(SHORT, &[place, missing])
+    }
+
     fn of(number: u32, values: &[u64]) -> Told {
         let mut extra = [0; EXTRA];
         extra[..values.len()].copy_from_slice(values);

@@ -1,31 +1,47 @@
 -- Laws of reading a field: which answer is given when, and what an answer tells. Assumes nothing.
 use mathlib.Core.Path.{_≡_, refl, sym, ap, _∙_}
 use mathlib.Core.Bool.{Bool, true, false, cond}
-use mathlib.Core.List.{List}
-use Prim.Native.Nat.{ℕ, _+_, _*_, _^_, _≤_, _<_}
+use mathlib.Core.List.{List, [], _∷_}
+use Prim.Native.Nat.{ℕ, _+_, _-_, _*_, _^_, _≤_, _<_}
 use native.Mathlib.Decide.{decLt}
 use native.Mathlib.Omega.{arith}
 use lib.Dec.{ltb}
 use lib.ListN.{length}
 use borrow.Author.Tests.{lt-ltb, le-ltb}
-use Rattle.bits.specs.Told.{Told, Accepted, Refused, size, width, short}
-use Rattle.bits.specs.Field.{field, Reading, reading, readBy, readUnsigned}
+use Rattle.bits.specs.Told.{Told, Accepted, Refused, size, width}
+use Rattle.bits.specs.Field.{field, missing, cutAt, Reading, reading, readBy, readUnsigned}
 use Rattle.bits.specs.Steps.{groundOf}
 use Rattle.bits.specs.declared.field.Ground.{Ground}
 use Rattle.bits.specs.declared.field.Ground.the-variants.{Firm, Size, Width}
 use Rattle.bits.proofs.FieldLaws.{field-lt}
 use Rattle.bits.proofs.GroundLaws.{onGround, by-ground, firm, is-firm}
 
+-- ---- how many bits are missing
+
+module _ (all p w : ℕ) where
+  pub missing-all : all ≤ p → missing all p w ≡ w
+  unfolding missing
+  missing-all h = omega arith
+
+  pub missing-some : p ≤ all → all < p + w → missing all p w ≡ w - (all - p)
+  unfolding missing
+  missing-some h l = omega arith
+
+  -- from 1 to the width
+  pub missing-within : all < p + w → 1 ≤ w → (1 ≤ missing all p w) × (missing all p w ≤ w)
+  unfolding missing
+  missing-within h l = (omega arith, omega arith)
+
 -- ---- by the ground, as the code decides
 
 module _ {A : Type 0} (meaning : ℕ → A) (s : List ℕ) (p w : ℕ) where
   -- what is left to decide on firm ground
   rest : Told (Reading A)
-  rest = cond (ltb (length s * 8) (p + w)) (short p) (Accepted (reading (meaning (field s p w)) (p + w)))
+  rest = cond (ltb (length s * 8) (p + w)) (cutAt (length s) p w) (Accepted (reading (meaning (field s p w)) (p + w)))
 
   read-on : readBy meaning s p w ≡ onGround (groundOf (length s) w) size width rest
   unfolding readBy rest
-  read-on = by-ground (length s) w size width (cond (ltb (length s * 8) (p + w)) (short p) (Accepted (reading (meaning (field s p w)) (p + w))))
+  read-on = by-ground (length s) w size width (cond (ltb (length s * 8) (p + w)) (cutAt (length s) p w) (Accepted (reading (meaning (field s p w)) (p + w))))
 
   pub read-size : groundOf (length s) w ≡ Size → size ≡ readBy meaning s p w
   read-size e = rw (read-on, e)
@@ -33,7 +49,7 @@ module _ {A : Type 0} (meaning : ℕ → A) (s : List ℕ) (p w : ℕ) where
   pub read-width : groundOf (length s) w ≡ Width → width ≡ readBy meaning s p w
   read-width e = rw (read-on, e)
 
-  pub read-short : groundOf (length s) w ≡ Firm → length s * 8 < p + w → short p ≡ readBy meaning s p w
+  pub read-short : groundOf (length s) w ≡ Firm → length s * 8 < p + w → cutAt (length s) p w ≡ readBy meaning s p w
   unfolding rest
   read-short e h = rw (read-on, e, lt-ltb _ _ h)
 
@@ -47,15 +63,23 @@ module _ {A : Type 0} (meaning : ℕ → A) (s : List ℕ) (p w : ℕ) where
     pub reads-value : p + w ≤ length s * 8 → readBy meaning s p w ≡ Accepted (reading (meaning (field s p w)) (p + w))
     reads-value h = sym (read-value (is-firm (length s) w few low high) h)
 
-    pub reads-short : length s * 8 < p + w → readBy meaning s p w ≡ short p
+    pub reads-short : length s * 8 < p + w → readBy meaning s p w ≡ cutAt (length s) p w
     reads-short h = sym (read-short (is-firm (length s) w few low high) h)
 
     -- a field that is refused there is cut short
-    pub refused-short : {n : ℕ} {carried : List ℕ} → readBy meaning s p w ≡ Refused n carried → readBy meaning s p w ≡ short p
+    pub refused-short : {n : ℕ} {carried : List ℕ} → readBy meaning s p w ≡ Refused n carried → readBy meaning s p w ≡ cutAt (length s) p w
     refused-short e = go (decLt (length s * 8) (p + w))
       where
-        go : Dec (length s * 8 < p + w) → readBy meaning s p w ≡ short p
+        go : Dec (length s * 8 < p + w) → readBy meaning s p w ≡ cutAt (length s) p w
         go (yes h) = reads-short h
+        go (no h) = let d = reads-value (omega arith) in let z : _≡_ {A = ℕ} 0 1 = cc in absurd (omega arith)
+
+    -- and ends behind the data
+    pub refused-behind : {n : ℕ} {carried : List ℕ} → readBy meaning s p w ≡ Refused n carried → length s * 8 < p + w
+    refused-behind e = go (decLt (length s * 8) (p + w))
+      where
+        go : Dec (length s * 8 < p + w) → length s * 8 < p + w
+        go (yes h) = h
         go (no h) = let d = reads-value (omega arith) in let z : _≡_ {A = ℕ} 0 1 = cc in absurd (omega arith)
 
   -- what an accepted field tells
@@ -82,6 +106,25 @@ module _ {A : Type 0} (meaning : ℕ → A) (s : List ℕ) (p w : ℕ) where
               let d = read-value q (omega arith) in
               record { few = f .0; low = f .1; high = f .2; within = omega arith; is = cc }
 
+  -- a field that is refused with Short carries its start, and says that from 1 to its width bits are missing
+  pub short-tells : {place lack : ℕ} → readBy meaning s p w ≡ Refused 1 (place ∷ lack ∷ []) → (place ≡ p) × (lack ≡ missing (length s * 8) p w) × (1 ≤ lack) × (lack ≤ w)
+  unfolding rest
+  short-tells {place} {lack} e = go (groundOf (length s) w) refl
+    where
+      go : (g : Ground) → groundOf (length s) w ≡ g → (place ≡ p) × (lack ≡ missing (length s * 8) p w) × (1 ≤ lack) × (lack ≤ w)
+      go Size q = let d = read-size q in let z : _≡_ {A = ℕ} 9 1 = cc in absurd (omega arith)
+      go Width q = let d = read-width q in let z : _≡_ {A = ℕ} 2 1 = cc in absurd (omega arith)
+      go Firm q = by (decLt (length s * 8) (p + w))
+        where
+          by : Dec (length s * 8 < p + w) → (place ≡ p) × (lack ≡ missing (length s * 8) p w) × (1 ≤ lack) × (lack ≤ w)
+          by (yes h) =
+              let d = read-short q h ∙ e in
+              let a : p ≡ place = cc in
+              let b : missing (length s * 8) p w ≡ lack = cc in
+              let r = missing-within (length s * 8) p w h (firm (length s) w q .1) in
+              (sym a, sym b, omega arith, omega arith)
+          by (no h) = let d = read-value q (omega arith) in let z : _≡_ {A = ℕ} 0 1 = cc in absurd (omega arith)
+
 -- ---- every reading is the unsigned one, understood
 
 abbrev pub understood : {A : Type 0} → (ℕ → A) → Told (Reading ℕ) → Told (Reading A)
@@ -93,8 +136,8 @@ unfolding rest
 read-as meaning s p w = rw (read-on meaning s p w, read-on (λ v. v) s p w) (go (groundOf (length s) w) (ltb (length s * 8) (p + w)))
   where
     go : (g : Ground) (b : Bool)
-        → onGround g size width (cond b (short p) (Accepted (reading (meaning (field s p w)) (p + w))))
-        ≡ understood meaning (onGround g size width (cond b (short p) (Accepted (reading (field s p w) (p + w)))))
+        → onGround g size width (cond b (cutAt (length s) p w) (Accepted (reading (meaning (field s p w)) (p + w))))
+        ≡ understood meaning (onGround g size width (cond b (cutAt (length s) p w) (Accepted (reading (field s p w) (p + w)))))
     go Size b = refl
     go Width b = refl
     go Firm true = refl

@@ -30,28 +30,28 @@ found-again told again r = record { same = λ {x} {y} e. sym (r x) ∙ ap again 
 
 unsigned : Told (Reading ℕ) → Unsigned
 unsigned (Accepted r) = U.Value (r .value) (r .next)
-unsigned (Refused n carried) = cond (eqb n 9) U.Size (cond (eqb n 2) U.Width (U.Short (getD carried 0 0)))
+unsigned (Refused n carried) = cond (eqb n 9) U.Size (cond (eqb n 2) U.Width (U.Short (getD carried 0 0) (getD carried 1 0)))
 
 unsigned-again : (x : Unsigned) → unsigned (toldUnsigned x) ≡ x
 unfolding unsigned
 unsigned-again (U.Value v q) = refl
 unsigned-again U.Size = refl
 unsigned-again U.Width = refl
-unsigned-again (U.Short p) = refl
+unsigned-again (U.Short p m) = refl
 
 pub unsigned-one-to-one : OneToOne toldUnsigned
 unsigned-one-to-one = found-again toldUnsigned unsigned unsigned-again
 
 signed : Told (Reading ℤ) → Signed
 signed (Accepted r) = S.Value (r .value) (r .next)
-signed (Refused n carried) = cond (eqb n 9) S.Size (cond (eqb n 2) S.Width (S.Short (getD carried 0 0)))
+signed (Refused n carried) = cond (eqb n 9) S.Size (cond (eqb n 2) S.Width (S.Short (getD carried 0 0) (getD carried 1 0)))
 
 signed-again : (x : Signed) → signed (toldSigned x) ≡ x
 unfolding signed
 signed-again (S.Value v q) = refl
 signed-again S.Size = refl
 signed-again S.Width = refl
-signed-again (S.Short p) = refl
+signed-again (S.Short p m) = refl
 
 pub signed-one-to-one : OneToOne toldSigned
 signed-one-to-one = found-again toldSigned signed signed-again

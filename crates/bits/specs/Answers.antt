@@ -15,14 +15,14 @@ abbrev pub toldUnsigned : Unsigned → Told (Reading ℕ)
 toldUnsigned (U.Value v q) = Accepted (reading v q)
 toldUnsigned U.Size = size
 toldUnsigned U.Width = width
-toldUnsigned (U.Short p) = short p
+toldUnsigned (U.Short p m) = short p m
 
 -- reading a signed field: the same
 abbrev pub toldSigned : Signed → Told (Reading ℤ)
 toldSigned (S.Value v q) = Accepted (reading v q)
 toldSigned S.Size = size
 toldSigned S.Width = width
-toldSigned (S.Short p) = short p
+toldSigned (S.Short p m) = short p m
 
 -- writing a field: the bit behind it, or Size, Width, Range with 0, Room with the width
 abbrev pub toldWritten : Written → Told ℕ

@@ -1,7 +1,7 @@
 -- Bit fields in a list of bytes: bit 0 is the top bit of byte 0, and a field has its most significant bit first. Assumes nothing.
 use mathlib.Core.Bool.{Bool, cond, not}
 use mathlib.Core.List.{List}
-use Prim.Native.Nat.{ℕ, zero, suc, _+_, _-_, _*_, _/_, _%_, _^_}
+use Prim.Native.Nat.{ℕ, zero, suc, _+_, _-_, _*_, _/_, _%_, _^_, min}
 use lib.ListN.{length, getD, set}
 use lib.Dec.{ltb, eqb}
 use lib.IntN.{ℤ}
@@ -28,13 +28,21 @@ pub record Reading (A : Type 0) : Type 0 where
 abbrev pub reading : {A : Type 0} → A → ℕ → Reading A
 reading v q = record { value = v; next = q }
 
+-- how many bits a field of w bits from bit p on lacks where the data has `all` bits: from the field's end back to the data's end, or to the field's start if that lies past it
+unfoldable pub missing : ℕ → ℕ → ℕ → ℕ
+missing all p w = min w (p + w - all)
+
+-- a field of w bits from bit p on, cut short by the end of n bytes
+abbrev pub cutAt : {A : Type 0} → ℕ → ℕ → ℕ → Told A
+cutAt n p w = short p (missing (n * 8) p w)
+
 -- a field read from bit p on, its number understood by `meaning`; the refusals in their order
 unfoldable pub readBy : {A : Type 0} → (ℕ → A) → List ℕ → ℕ → ℕ → Told (Reading A)
 readBy meaning s p w =
     cond (ltb 1023 (length s)) size
     (cond (eqb w 0) width
     (cond (ltb 64 w) width
-    (cond (ltb (length s * 8) (p + w)) (short p)
+    (cond (ltb (length s * 8) (p + w)) (cutAt (length s) p w)
     (Accepted (reading (meaning (field s p w)) (p + w))))))
 
 -- the number itself

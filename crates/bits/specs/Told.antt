@@ -15,9 +15,9 @@ andThen (Refused n carried) f = Refused n carried
 
 -- ---- the table of refusals
 
--- 1 Short: a field does not fit in the data. Carries the bit place where the field starts.
-abbrev pub short : {A : Type 0} → ℕ → Told A
-short place = Refused 1 (place ∷ [])
+-- 1 Short: a field does not fit in the data. Carries the bit place where the field starts, and how many of its bits are missing.
+abbrev pub short : {A : Type 0} → ℕ → ℕ → Told A
+short place missing = Refused 1 (place ∷ missing ∷ [])
 
 -- 2 Width: width 0 or above 64.
 abbrev pub width : {A : Type 0} → Told A

@@ -1,9 +1,10 @@
 // Reading and writing one field of 1 to 64 bits, unsigned, in two's complement or as sign and magnitude.
 ghost use mathlib.Core.Path.{_≡_};
-ghost use Prim.Native.Nat.{_+_, _*_, _≤_};
+ghost use Prim.Native.Nat.{_+_, _*_, _≤_, _<_};
 ghost use lib.ListN.{length};
+ghost use Rattle.bits.specs.Told.{short};
 ghost use Rattle.bits.specs.Outcome.{outcome};
-ghost use Rattle.bits.specs.Field.{readUnsigned, readTwos, readSignmag, writeUnsigned, writeTwos, writeSignmag};
+ghost use Rattle.bits.specs.Field.{missing, readUnsigned, readTwos, readSignmag, writeUnsigned, writeTwos, writeSignmag};
 ghost use Rattle.bits.specs.Answers.{toldUnsigned, toldSigned, toldWritten};
 ghost use Rattle.bits.specs.Steps.{groundOf, placed};
 use crate::raw;
@@ -14,8 +15,8 @@ pub enum Unsigned {
     Value(u64, usize),
     Size,
     Width,
-    // Carries the bit where the field starts.
-    Short(usize),
+    // Carries the bit where the field starts, and how many of its bits are missing.
+    Short(usize, usize),
 }
 
 // What reading a field as a signed number answers: the number and the bit behind the field; or a refusal.
@@ -23,8 +24,8 @@ pub enum Signed {
     Value(i64, usize),
     Size,
     Width,
-    // Carries the bit where the field starts.
-    Short(usize),
+    // Carries the bit where the field starts, and how many of its bits are missing.
+    Short(usize, usize),
 }
 
 // What writing a field answers: the bit behind it; or a refusal.
@@ -47,10 +48,10 @@ pub fn read_unsigned(bytes: &[u8], start: usize, width: usize) -> Unsigned
         Ground::Firm => {
             let all = bytes.len() * 8;
             if all < width {
-                return Unsigned::Short(start);
+                return cut(all, start, width);
             }
             if all - width < start {
-                return Unsigned::Short(start);
+                return cut(all, start, width);
             }
             Unsigned::Value(raw::field_at(bytes, start, width), start + width)
         }
@@ -65,7 +66,7 @@ pub fn read_twos(bytes: &[u8], start: usize, width: usize) -> Signed
         Unsigned::Value(v, next) => Signed::Value(signed::twos(v, width), next),
         Unsigned::Size => Signed::Size,
         Unsigned::Width => Signed::Width,
-        Unsigned::Short(place) => Signed::Short(place),
+        Unsigned::Short(place, missing) => Signed::Short(place, missing),
     }
 }
 
@@ -77,7 +78,7 @@ pub fn read_signmag(bytes: &[u8], start: usize, width: usize) -> Signed
         Unsigned::Value(v, next) => Signed::Value(signed::signmag(v, width), next),
         Unsigned::Size => Signed::Size,
         Unsigned::Width => Signed::Width,
-        Unsigned::Short(place) => Signed::Short(place),
+        Unsigned::Short(place, missing) => Signed::Short(place, missing),
     }
 }
 
@@ -150,6 +151,18 @@ fn ground_of(n: usize, width: usize) -> Ground
         return Ground::Width;
     }
     Ground::Firm
+}
+
+// The refusal of a field that ends behind the `all` bits of the data: it lacks what lies behind them, which is all of it
+// where it starts there.
+fn cut(all: usize, start: usize, width: usize) -> Unsigned
+    requires { ⌜ all < start + width ⌝ }
+    ensures { λ r. ⌜ toldUnsigned r ≡ short start (missing all start width) ⌝ }
+{
+    if all <= start {
+        return Unsigned::Short(start, width);
+    }
+    Unsigned::Short(start, width - (all - start))
 }
 
 // Writes a number that fits its width, where the data reaches so far.

@@ -6,8 +6,8 @@ use Prim.Native.Nat.{ℕ, _+_, _^_, _≤_, _<_}
 use native.Mathlib.Omega.{arith}
 use borrow.Author.Tests.{lt-ltb, ltb-true}
 use lib.ListN.{length}
-use Rattle.bits.specs.Told.{Told, Accepted, Refused, short}
-use Rattle.bits.specs.Field.{field, Reading, reading, readBy}
+use Rattle.bits.specs.Told.{Told, Accepted, Refused}
+use Rattle.bits.specs.Field.{field, Reading, reading, cutAt, readBy}
 use Rattle.bits.specs.Fields.{bits, total}
 use Rattle.bits.specs.Signed.{fitsUnsigned, fitsTwos, twosBits, twosOf}
 use Rattle.bits.proofs.FieldLaws.{field-lt}
@@ -53,7 +53,7 @@ module _ {A : Type 0} (w : ℕ) (fit : A → Bool) (number : A → ℕ) (meaning
       go : (s : List ℕ) (p : ℕ) → length s ≤ 1023 → (t : Told (Reading A)) → readBy meaning s p w ≡ t → Cut t
       go s p few (Accepted a) e = tt
       go s p few (Refused n carried) e =
-          let d : Refused n carried ≡ short {A = Reading A} p = sym e ∙ refused-short meaning s p w few (u .low) (u .high) e in
+          let d : Refused n carried ≡ cutAt {A = Reading A} (length s) p w = sym e ∙ refused-short meaning s p w few (u .low) (u .high) e in
           cc
 
 module _ (w : ℕ) (low : 1 ≤ w) (high : w ≤ 64) where

@@ -5,7 +5,7 @@ use Prim.Native.Nat.{ℕ, suc, _+_, _-_, _≤_, _<_}
 use native.Mathlib.Nat.{add-zero, add-assoc}
 use native.Mathlib.Omega.{arith}
 use lib.ListN.{length, length-append}
-use Rattle.bits.specs.Told.{Told, Accepted, Refused, short, andThen}
+use Rattle.bits.specs.Told.{Told, Accepted, Refused, andThen}
 use Rattle.bits.specs.Field.{Reading, reading}
 use Rattle.messages.specs.Reader.{before, many}
 use Rattle.messages.specs.Records.{Counted, counted}
@@ -74,9 +74,9 @@ module _ {A : Type 0} (i : ℕ) where
       (ap (λ (k : ℕ). i + k) (length-append xs (r .value)) ∙ sym (add-assoc i (length xs) (length (r .value))))
   counts-before xs (Refused n carried) = refl
 
-  pub counts-short : {t : Told (Reading (List A))} (p : ℕ) → t ≡ short p → short p ≡ counts i t
+  pub counts-short : {t : Told (Reading (List A))} {answer : Told Counted} {carried : List ℕ} → t ≡ Refused 1 carried → answer ≡ Refused 1 carried → answer ≡ counts i t
   unfolding counts
-  counts-short p e = rw e
+  counts-short e a = a ∙ sym (ap (counts i) e)
 
   pub counts-none : (t : Told (Reading (List A))) (p : ℕ) → t ≡ Accepted (reading [] p) → Accepted (counted i p) ≡ counts i t
   unfolding counts
@@ -156,10 +156,10 @@ module _ {A : Type 0} {i : ℕ} {t : Told (Reading (List A))} where
     unfolding counts found
     stored-one {old = old} e d = record { says = rw e; lists = d ∙ ap (λ (u : Told (Reading (List A))). put i (found u) old) (sym e) }
 
-    pub stored-short : {p : ℕ} {old : S} → t ≡ short p → put i [] old ≡ old → Stored put i t (short p) old old
+    pub stored-short : {answer : Told Counted} {carried : List ℕ} {old : S} → t ≡ Refused 1 carried → answer ≡ Refused 1 carried → put i [] old ≡ old → Stored put i t answer old old
     unfolding found
-    stored-short {p} {old} e d =
-        record { says = counts-short i p e; lists = sym d ∙ ap (λ (u : Told (Reading (List A))). put i (found u) old) (sym e) }
+    stored-short {old = old} e a d =
+        record { says = counts-short i e a; lists = sym d ∙ ap (λ (u : Told (Reading (List A))). put i (found u) old) (sym e) }
 
     -- a pass that is stored, said otherwise
     pub stored-as : {u : Told (Reading (List A))} {answer : Told Counted} {old new : S} → u ≡ t → Stored put i t answer old new → Stored put i u answer old new

@@ -9,8 +9,8 @@ use borrow.Author.Tests.{lt-ltb, le-ltb, eq-eqb, ne-eqb}
 use lib.IntN.{ℤ}
 use lib.ListN.{length, set}
 use lib.Dec.{ltb}
-use Rattle.bits.specs.Told.{Told, Accepted, size, short, Refused, andThen}
-use Rattle.bits.specs.Field.{Reading, reading, readUnsigned, field, readTwos}
+use Rattle.bits.specs.Told.{Told, Accepted, size, Refused, andThen}
+use Rattle.bits.specs.Field.{Reading, reading, missing, cutAt, readUnsigned, field, readTwos}
 use Rattle.bits.specs.Signed.{twosOf}
 use Rattle.bits.proofs.ReadLaws.{reads-value, reads-short}
 use Rattle.messages.specs.Reader.{many}
@@ -26,11 +26,11 @@ use Rattle.messages.proofs.RunLaws.{Single, Run, many-run, run-fits, ru
 -- ---- one bias
 
 module _ (s : List ℕ) (a p : ℕ) where
-  pub bias-cut : readUnsigned s p 5 ≡ short p → biasAt s a p ≡ short p
+  pub bias-cut : {carried : List ℕ} → readUnsigned s p 5 ≡ Refused 1 carried → biasAt s a p ≡ Refused 1 carried
   unfolding biasAt
   bias-cut e = rw e
 
-  pub bias-cut-2 : {g q : ℕ} → readUnsigned s p 5 ≡ Accepted (reading g q) → readTwos s q 14 ≡ short q → biasAt s a p ≡ short q
+  pub bias-cut-2 : {g q : ℕ} {carried : List ℕ} → readUnsigned s p 5 ≡ Accepted (reading g q) → readTwos s q 14 ≡ Refused 1 carried → biasAt s a p ≡ Refused 1 carried
   unfolding biasAt
   bias-cut-2 e f = rw (e, f)
 
@@ -47,15 +47,19 @@ module _ (s : List ℕ) (a p : ℕ) where
 
 -- ---- the biases of a satellite: 19 bits each
 
--- where a bias is cut short that starts at bit p: at its signal, or else behind it
-cutBias : List ℕ → ℕ → ℕ
-cutBias s p = cond (ltb (length s * 8) (p + 5)) p (p + 5)
+-- what Short carries of the field of w bits from bit p on
+abbrev lack : List ℕ → ℕ → ℕ → List ℕ
+lack s p w = p ∷ missing (length s * 8) p w ∷ []
 
-cut-signal : (s : List ℕ) (p : ℕ) → length s * 8 < p + 5 → cutBias s p ≡ p
+-- what a bias that starts at bit p and is cut short carries: of its signal, or else of what is behind it
+cutBias : List ℕ → ℕ → List ℕ
+cutBias s p = cond (ltb (length s * 8) (p + 5)) (lack s p 5) (lack s (p + 5) 14)
+
+cut-signal : (s : List ℕ) (p : ℕ) → length s * 8 < p + 5 → cutBias s p ≡ lack s p 5
 unfolding cutBias
 cut-signal s p h = rw (lt-ltb _ _ h)
 
-cut-behind : (s : List ℕ) (p : ℕ) → p + 5 ≤ length s * 8 → cutBias s p ≡ p + 5
+cut-behind : (s : List ℕ) (p : ℕ) → p + 5 ≤ length s * 8 → cutBias s p ≡ lack s (p + 5) 14
 unfolding cutBias
 cut-behind s p h = rw (le-ltb _ _ h)
 
@@ -74,12 +78,12 @@ module _ (s : List ℕ) (few : length s ≤ 1023) (a : ℕ) where
           bias-read s a p (reads-value (λ v. v) s p 5 few (omega arith) (omega arith) (omega arith)) (reads-value (twosOf 14) s (p + 5) 14 few (omega arith) (omega arith) (omega arith))
           ∙ ap (λ (q : ℕ). Accepted (reading (rec1059 a (field s p 5) (twosOf 14 (field s (p + 5) 14)) ∷ []) q)) e
 
-      cuts : (p : ℕ) → length s * 8 < p + 19 → Dec (length s * 8 < p + 5) → biasAt s a p ≡ short (cutBias s p)
+      cuts : (p : ℕ) → length s * 8 < p + 19 → Dec (length s * 8 < p + 5) → biasAt s a p ≡ Refused 1 (cutBias s p)
       cuts p h (yes l) =
-          bias-cut s a p (reads-short (λ v. v) s p 5 few (omega arith) (omega arith) l) ∙ ap (λ (q : ℕ). short q) (sym (cut-signal s p l))
+          bias-cut s a p (reads-short (λ v. v) s p 5 few (omega arith) (omega arith) l) ∙ ap (λ (c : List ℕ). Refused 1 c) (sym (cut-signal s p l))
       cuts p h (no l) =
           bias-cut-2 s a p (reads-value (λ v. v) s p 5 few (omega arith) (omega arith) (omega arith)) (reads-short (twosOf 14) s (p + 5) 14 few (omega arith) (omega arith) (omega arith))
-          ∙ ap (λ (q : ℕ). short q) (sym (cut-behind s p (omega arith)))
+          ∙ ap (λ (c : List ℕ). Refused 1 c) (sym (cut-behind s p (omega arith)))
 
   biases-run : (n : ℕ) → Run 19 (length s * 8) (cutBias s) n (many (biasAt s a) n)
   biases-run n = many-run 19 (length s * 8) (cutBias s) one-bias n
@@ -90,16 +94,19 @@ module _ (s : List ℕ) (few : length s ≤ 1023) (a : ℕ) where
     biases-fit h = run-fits 19 (length s * 8) (cutBias s) (biases-run n) i p h
 
     -- m are there, and the signal of the next is not
-    pub no-signal : (m : ℕ) → m < n → p + m * 19 ≤ length s * 8 → length s * 8 < p + m * 19 + 5 → short (p + m * 19) ≡ counts i (many (biasAt s a) n p)
+    pub no-signal : (m : ℕ) → m < n → p + m * 19 ≤ length s * 8 → length s * 8 < p + m * 19 + 5
+        → {answer : Told Counted} → answer ≡ cutAt (length s) (p + m * 19) 5 → answer ≡ counts i (many (biasAt s a) n p)
     no-signal m l h c =
-        counts-short i (p + m * 19)
-        (run-cut 19 (length s * 8) (cutBias s) (biases-run n) m p l h (omega arith) ∙ ap (λ (q : ℕ). short q) (cut-signal s (p + m * 19) c))
+        counts-short i
+        (run-cut 19 (length s * 8) (cutBias s) (biases-run n) m p l h (omega arith) ∙ ap (λ (c : List ℕ). Refused 1 c) (cut-signal s (p + m * 19) c))
 
     -- m are there and the signal of the next, but not its bias
-    pub no-bias : (m : ℕ) → m < n → p + m * 19 + 5 ≤ length s * 8 → length s * 8 < p + m * 19 + 19 → short (p + m * 19 + 5) ≡ counts i (many (biasAt s a) n p)
-    no-bias m l h c =
-        counts-short i (p + m * 19 + 5)
-        (run-cut 19 (length s * 8) (cutBias s) (biases-run n) m p l (omega arith) c ∙ ap (λ (q : ℕ). short q) (cut-behind s (p + m * 19) h))
+    pub no-bias : (m : ℕ) → m < n → p + m * 19 + 5 ≤ length s * 8 → length s * 8 < p + m * 19 + 19
+        → {answer : Told Counted} {q : ℕ} → q ≡ p + m * 19 + 5 → answer ≡ cutAt (length s) q 14 → answer ≡ counts i (many (biasAt s a) n p)
+    no-bias m l h c e k =
+        counts-short i
+        (run-cut 19 (length s * 8) (cutBias s) (biases-run n) m p l (omega arith) c ∙ ap (λ (c : List ℕ). Refused 1 c) (cut-behind s (p + m * 19) h))
+        (k ∙ ap (λ (q : ℕ). cutAt (length s) q 14) e)
 
   -- what accepted biases tell
   pub biases-tell : (n p : ℕ) → p ≤ length s * 8 → {r : Reading (List Rec1059)} → many (biasAt s a) n p ≡ Accepted r
@@ -109,12 +116,12 @@ module _ (s : List ℕ) (few : length s ≤ 1023) (a : ℕ) where
 -- ---- one satellite
 
 module _ (s : List ℕ) (p : ℕ) where
-  pub satellite-cut : readUnsigned s p 6 ≡ short p → satelliteAt s p ≡ short p
+  pub satellite-cut : {carried : List ℕ} → readUnsigned s p 6 ≡ Refused 1 carried → satelliteAt s p ≡ Refused 1 carried
   unfolding satelliteAt
   satellite-cut e = rw e
 
   module _ {a q : ℕ} (e : readUnsigned s p 6 ≡ Accepted (reading a q)) where
-    pub satellite-cut-2 : readUnsigned s q 5 ≡ short q → satelliteAt s p ≡ short q
+    pub satellite-cut-2 : {carried : List ℕ} → readUnsigned s q 5 ≡ Refused 1 carried → satelliteAt s p ≡ Refused 1 carried
     unfolding satelliteAt
     satellite-cut-2 f = rw (e, f)
 
@@ -152,7 +159,7 @@ few-more s p few i e =
 
 -- ---- the block, by its satellite count
 
-pub block-cut : (s : List ℕ) (p : ℕ) → readUnsigned s p 6 ≡ short p → block1059 s p ≡ short p
+pub block-cut : (s : List ℕ) (p : ℕ) {carried : List ℕ} → readUnsigned s p 6 ≡ Refused 1 carried → block1059 s p ≡ Refused 1 carried
 unfolding block1059
 block-cut s p e = rw e
 

@@ -9,8 +9,8 @@ use borrow.Author.Tests.{lt-ltb, le-ltb, eq-eqb, ne-eqb}
 use lib.IntN.{ℤ}
 use lib.ListN.{length, set, drop, getD}
 use lib.Dec.{eqb}
-use Rattle.bits.specs.Told.{Told, Accepted, size, short, Refused, andThen}
-use Rattle.bits.specs.Field.{Reading, reading, readUnsigned, field, readTwos}
+use Rattle.bits.specs.Told.{Told, Accepted, size, Refused, andThen}
+use Rattle.bits.specs.Field.{missing, cutAt, Reading, reading, readUnsigned, field, readTwos}
 use Rattle.bits.specs.Signed.{twosOf}
 use Rattle.bits.proofs.ReadLaws.{reads-value, reads-short}
 use Rattle.messages.specs.Records.{Rec1230, Counted, counted, rec1230}
@@ -76,7 +76,7 @@ masked-none s k m p h l = let e : k ≡ 4 = omega arith in rw e
 -- ---- one bias, and the others behind it
 
 module _ (s : List ℕ) (g p : ℕ) where
-  pub bias-cut : readTwos s p 16 ≡ short p → biasesAt s (g ∷ []) p ≡ short p
+  pub bias-cut : {carried : List ℕ} → readTwos s p 16 ≡ Refused 1 carried → biasesAt s (g ∷ []) p ≡ Refused 1 carried
   unfolding biasesAt
   bias-cut e = rw e
 
@@ -102,8 +102,12 @@ module _ (s : List ℕ) (g p : ℕ) where
 
 -- ---- the biases: 16 bits each
 
+-- what a bias that starts at bit p and is cut short carries
+abbrev cutBias : List ℕ → ℕ → List ℕ
+cutBias s p = p ∷ missing (length s * 8) p 16 ∷ []
+
 module _ (s : List ℕ) (few : length s ≤ 1023) where
-  one-bias : (g : ℕ) → Single 16 (length s * 8) (λ p. p) (biasesAt s (g ∷ []))
+  one-bias : (g : ℕ) → Single 16 (length s * 8) (cutBias s) (biasesAt s (g ∷ []))
   one-bias g =
       record {
         record-of = λ p. rec1230 g (twosOf 16 (field s p 16));
@@ -111,7 +115,7 @@ module _ (s : List ℕ) (few : length s ≤ 1023) where
         cuts = λ p h. bias-cut s g p (reads-short (twosOf 16) s p 16 few (omega arith) (omega arith) h);
       }
 
-  biases-run : (gs : List ℕ) → Run 16 (length s * 8) (λ p. p) (length gs) (biasesAt s gs)
+  biases-run : (gs : List ℕ) → Run 16 (length s * 8) (cutBias s) (length gs) (biasesAt s gs)
   unfolding biasesAt
   biases-run [] = none (λ p. refl)
   biases-run (g ∷ gs) = more (one-bias g) (λ p. biases-on s g p gs) (biases-run gs)
@@ -122,16 +126,17 @@ module _ (s : List ℕ) (few : length s ≤ 1023) where
     biases-fit h =
         let a : n ≡ 0 + length gs = omega arith in
         let b : p + n * 16 ≡ p + length gs * 16 = omega arith in
-        ap₂ (λ (x y : ℕ). Accepted (counted x y)) a b ∙ run-fits 16 (length s * 8) (λ p. p) (biases-run gs) 0 p (omega arith)
+        ap₂ (λ (x y : ℕ). Accepted (counted x y)) a b ∙ run-fits 16 (length s * 8) (cutBias s) (biases-run gs) 0 p (omega arith)
 
     -- m are there, and the next is not
-    pub no-bias : (m : ℕ) → m < n → p + m * 16 ≤ length s * 8 → length s * 8 < p + m * 16 + 16 → short (p + m * 16) ≡ counts 0 (biasesAt s gs p)
+    pub no-bias : (m : ℕ) → m < n → p + m * 16 ≤ length s * 8 → length s * 8 < p + m * 16 + 16
+        → {answer : Told Counted} → answer ≡ cutAt (length s) (p + m * 16) 16 → answer ≡ counts 0 (biasesAt s gs p)
     no-bias m l h c =
-        counts-short 0 (p + m * 16) (run-cut 16 (length s * 8) (λ p. p) (biases-run gs) m p (omega arith) h c)
+        counts-short 0 (run-cut 16 (length s * 8) (cutBias s) (biases-run gs) m p (omega arith) h c)
 
   pub biases-tell : (gs : List ℕ) (p : ℕ) → p ≤ length s * 8 → {r : Reading (List Rec1230)} → biasesAt s gs p ≡ Accepted r
       → (length (r .value) ≡ length gs) × (r .next ≡ p + length gs * 16) × (r .next ≤ length s * 8)
-  biases-tell gs p h e = run-tells 16 (length s * 8) (λ p. p) (biases-run gs) p h e
+  biases-tell gs p h e = run-tells 16 (length s * 8) (cutBias s) (biases-run gs) p h e
 
 -- ---- a turn of the second pass at signal k, whose bit is set; l is the code's list of the signals
 
@@ -161,7 +166,7 @@ module _ (s l : List ℕ) (k m p : ℕ) (is : l ≡ maskSignals) (h : k < 4) (bi
 
 -- ---- the block, by its mask
 
-pub block-cut : (s : List ℕ) (p : ℕ) → readUnsigned s p 4 ≡ short p → block1230 s p ≡ short p
+pub block-cut : (s : List ℕ) (p : ℕ) {carried : List ℕ} → readUnsigned s p 4 ≡ Refused 1 carried → block1230 s p ≡ Refused 1 carried
 unfolding block1230
 block-cut s p e = rw e
 

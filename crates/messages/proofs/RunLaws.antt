@@ -6,19 +6,19 @@ use native.Mathlib.Nat.{add-zero, zero-mul, suc-mul}
 use native.Mathlib.Decide.{decLt}
 use native.Mathlib.Omega.{arith}
 use lib.ListN.{length, length-append}
-use Rattle.bits.specs.Told.{Told, Accepted, short}
+use Rattle.bits.specs.Told.{Told, Accepted, Refused}
 use Rattle.bits.specs.Field.{Reading, reading}
 use Rattle.messages.specs.Reader.{before, many}
 use Rattle.messages.specs.Records.{counted}
 use Rattle.messages.specs.ReadSteps.{counts}
 use Rattle.messages.proofs.PassLaws.{chain, both-read, counts-before}
 
-module _ {A : Type 0} (w most : ℕ) (cut : ℕ → ℕ) where
-  -- f reads one record of w bits where it ends by bit `most`, and else is cut short
+module _ {A : Type 0} (w most : ℕ) (cut : ℕ → List ℕ) where
+  -- f reads one record of w bits where it ends by bit `most`, and else is cut short and carries what `cut` tells
   pub record Single (f : ℕ → Told (Reading (List A))) : Type 0 where
     pub record-of : ℕ → A
     pub fits : (p : ℕ) → p + w ≤ most → f p ≡ Accepted (reading (record-of p ∷ []) (p + w))
-    pub cuts : (p : ℕ) → most < p + w → f p ≡ short (cut p)
+    pub cuts : (p : ℕ) → most < p + w → f p ≡ Refused 1 (cut p)
 
   -- n such records, one behind the other
   pub data Run : ℕ → (ℕ → Told (Reading (List A))) → Type 0 where
@@ -45,18 +45,18 @@ module _ {A : Type 0} (w most : ℕ) (cut : ℕ → ℕ) where
       ∙ sym (ap (counts i) (e p ∙ ap (λ (u : Told (Reading (List A))). chain u rest) g) ∙ counts-before i (o .record-of p ∷ []) (rest (p + w)))
 
   -- m of it are there, and the next is cut short
-  pub run-cut : {n : ℕ} {run : ℕ → Told (Reading (List A))} → Run n run → (m p : ℕ) → m < n → p + m * w ≤ most → most < p + m * w + w → run p ≡ short (cut (p + m * w))
+  pub run-cut : {n : ℕ} {run : ℕ → Told (Reading (List A))} → Run n run → (m p : ℕ) → m < n → p + m * w ≤ most → most < p + m * w + w → run p ≡ Refused 1 (cut (p + m * w))
   run-cut (none e) m p l h c = absurd (omega arith)
   run-cut (more {n} {f} {rest} {run} o e r) zero p l h c =
       let z = zero-mul w in
       let g = o .cuts p (omega arith) in
-      e p ∙ ap (λ (u : Told (Reading (List A))). chain u rest) g ∙ ap (λ (x : ℕ). short (cut x)) (omega arith)
+      e p ∙ ap (λ (u : Told (Reading (List A))). chain u rest) g ∙ ap (λ (x : ℕ). Refused 1 (cut x)) (omega arith)
   run-cut (more {n} {f} {rest} {run} o e r) (suc m) p l h c =
       let a = suc-mul m w in
       let g = o .fits p (omega arith) in
       let t = run-cut r m (p + w) (omega arith) (omega arith) (omega arith) in
       e p ∙ ap (λ (u : Told (Reading (List A))). chain u rest) g
-      ∙ ap (before (o .record-of p ∷ [])) t ∙ ap (λ (x : ℕ). short (cut x)) (omega arith)
+      ∙ ap (before (o .record-of p ∷ [])) t ∙ ap (λ (x : ℕ). Refused 1 (cut x)) (omega arith)
 
   -- what an accepted run tells: its records, its end, and that it is there
   pub run-tells : {n : ℕ} {run : ℕ → Told (Reading (List A))} → Run n run → (p : ℕ) → p ≤ most → {r : Reading (List A)} → run p ≡ Accepted r
@@ -72,7 +72,7 @@ module _ {A : Type 0} (w most : ℕ) (cut : ℕ → ℕ) where
       go : ((q : ℕ) → q ≤ most → (y : Reading (List A)) → rest q ≡ Accepted y → (length (y .value) ≡ n) × (y .next ≡ q + n * w) × (y .next ≤ most))
           → Dec (most < p + w) → (length (x .value) ≡ suc n) × (x .next ≡ p + suc n * w) × (x .next ≤ most)
       go later (yes l) =
-          let d : run p ≡ short (cut p) = e p ∙ ap (λ (u : Told (Reading (List A))). chain u rest) (o .cuts p l) in
+          let d : run p ≡ Refused 1 (cut p) = e p ∙ ap (λ (u : Told (Reading (List A))). chain u rest) (o .cuts p l) in
           let z : _≡_ {A = ℕ} 0 1 = cc in
           absurd (omega arith)
       go later (no l) =

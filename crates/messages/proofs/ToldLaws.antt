@@ -54,13 +54,13 @@ same-order O.Greater O.Greater e = refl
 
 read : Told Counted → BlockRead
 read (Accepted c) = R.Records (c .count) (c .end)
-read (Refused n carried) = cond (eqb n 9) R.Size (cond (eqb n 1) (R.Short (getD carried 0 0)) (R.Room (getD carried 0 0)))
+read (Refused n carried) = cond (eqb n 9) R.Size (cond (eqb n 1) (R.Short (getD carried 0 0) (getD carried 1 0)) (R.Room (getD carried 0 0)))
 
 read-again : (x : BlockRead) → read (toldRead x) ≡ x
 unfolding read
 read-again (R.Records n q) = refl
 read-again R.Size = refl
-read-again (R.Short p) = refl
+read-again (R.Short p m) = refl
 read-again (R.Room n) = refl
 
 pub read-one-to-one : OneToOne toldRead

@@ -36,7 +36,7 @@ toldOrder O.Greater = greater
 abbrev pub toldRead : BlockRead → Told Counted
 toldRead (R.Records n q) = Accepted (counted n q)
 toldRead R.Size = size
-toldRead (R.Short p) = short p
+toldRead (R.Short p m) = short p m
 toldRead (R.Room n) = room n
 
 -- the bit behind the block that was written; or a refusal

@@ -7,6 +7,8 @@ ghost use Rattle.messages.specs.Read1059.{biasAt, satelliteAt, outcome10
 ghost use Rattle.messages.specs.Answers.{toldRead};
 ghost use Rattle.messages.specs.ReadSteps.{counts, Stored, lists1059, put1059, Ready1059};
 use crate::answer::BlockRead;
+use crate::answer::unread;
+use crate::answer::unread_signed;
 use bits::field;
 use bits::field::Signed;
 use bits::field::Unsigned;
@@ -31,8 +33,9 @@ pub fn read(
         return BlockRead::Size;
     }
     // DF387: the number of satellites.
-    let Unsigned::Value(n, at) = field::read_unsigned(bytes, start, 6) else {
-        return BlockRead::Short(start);
+    let read = field::read_unsigned(bytes, start, 6);
+    let Unsigned::Value(n, at) = read else {
+        return unread(read);
     };
     let extent = measure(bytes, at, n as usize);
     let BlockRead::Records { count, end: _ } = extent else {
@@ -72,17 +75,19 @@ fn measure_satellite(bytes: &[u8], start: usize, i: usize) -> BlockRead
     ensures { λ r. ⌜ toldRead r ≡ counts i (satelliteAt (now (bytes .entry)) start) ⌝ }
 {
     // DF068: the satellite.
-    let Unsigned::Value(_, at) = field::read_unsigned(bytes, start, 6) else {
-        return BlockRead::Short(start);
+    let read = field::read_unsigned(bytes, start, 6);
+    let Unsigned::Value(_, at) = read else {
+        return unread(read);
     };
     // DF379: the number of its biases.
-    let Unsigned::Value(n, at) = field::read_unsigned(bytes, at, 5) else {
-        return BlockRead::Short(at);
+    let read = field::read_unsigned(bytes, at, 5);
+    let Unsigned::Value(n, at) = read else {
+        return unread(read);
     };
     measure_biases(bytes, at, n as usize, i)
 }
 
-// The n biases of one satellite. Each has 19 bits, so none of them has to be read.
+// The n biases of one satellite. Each has 19 bits, so none has to be read but the one that does not fit.
 fn measure_biases(bytes: &[u8], start: usize, n: usize, i: usize) -> BlockRead
     requires { ⌜ (length (now bytes) ≤ 1023) × (start ≤ length (now bytes) * 8) × (n ≤ 31) × (i ≤ 1953) ⌝ }
     ensures { λ r. ⌜ ((a : ℕ) → toldRead r ≡ counts i (many (biasAt (now (bytes .entry)) a) n start)) ⌝ }
@@ -95,11 +100,11 @@ fn measure_biases(bytes: &[u8], start: usize, n: usize, i: usize) -> BlockRead
             end: start + n * 19,
         };
     }
-    let at = start + whole * 19;
-    if all - at < 5 {
-        return BlockRead::Short(at);
-    }
-    BlockRead::Short(at + 5)
+    let read = field::read_unsigned(bytes, start + whole * 19, 5);
+    let Unsigned::Value(_, at) = read else {
+        return unread(read);
+    };
+    unread_signed(field::read_twos(bytes, at, 14))
 }
 
 // ---- the second pass: the records, into lists that have room for them
@@ -144,12 +149,14 @@ fn store_satellite(
     ensures { λ r. ⌜ Stored put1059 i (satelliteAt (now (bytes .entry)) start) (toldRead r) (lists1059 (now (satellites .entry)) (now (signals .entry)) (now (biases .entry))) (lists1059 (now (satellites .exit)) (now (signals .exit)) (now (biases .exit))) ⌝ }
 {
     // DF068: the satellite.
-    let Unsigned::Value(satellite, at) = field::read_unsigned(bytes, start, 6) else {
-        return BlockRead::Short(start);
+    let read = field::read_unsigned(bytes, start, 6);
+    let Unsigned::Value(satellite, at) = read else {
+        return unread(read);
     };
     // DF379: the number of its biases.
-    let Unsigned::Value(n, at) = field::read_unsigned(bytes, at, 5) else {
-        return BlockRead::Short(at);
+    let read = field::read_unsigned(bytes, at, 5);
+    let Unsigned::Value(n, at) = read else {
+        return unread(read);
     };
     store_biases(
         bytes,
@@ -206,12 +213,14 @@ fn store_bias(
     ensures { λ r. ⌜ Stored put1059 i (biasAt (now (bytes .entry)) satellite start) (toldRead r) (lists1059 (now (satellites .entry)) (now (signals .entry)) (now (biases .entry))) (lists1059 (now (satellites .exit)) (now (signals .exit)) (now (biases .exit))) ⌝ }
 {
     // DF380: the signal.
-    let Unsigned::Value(signal, at) = field::read_unsigned(bytes, start, 5) else {
-        return BlockRead::Short(start);
+    let read = field::read_unsigned(bytes, start, 5);
+    let Unsigned::Value(signal, at) = read else {
+        return unread(read);
     };
     // DF383: the bias.
-    let Signed::Value(bias, end) = field::read_twos(bytes, at, 14) else {
-        return BlockRead::Short(at);
+    let read = field::read_twos(bytes, at, 14);
+    let Signed::Value(bias, end) = read else {
+        return unread_signed(read);
     };
     satellites[i] = satellite;
     signals[i] = signal as u8;

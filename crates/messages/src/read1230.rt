@@ -7,6 +7,8 @@ ghost use Rattle.messages.specs.Read1230.{maskSignals, masked, biasesAt,
 ghost use Rattle.messages.specs.Answers.{toldRead};
 ghost use Rattle.messages.specs.ReadSteps.{counts, Stored, lists1230, put1230, Ready1230};
 use crate::answer::BlockRead;
+use crate::answer::unread;
+use crate::answer::unread_signed;
 use bits::field;
 use bits::field::Signed;
 use bits::field::Unsigned;
@@ -25,8 +27,9 @@ pub fn read(bytes: &[u8], start: usize, signals: &mut [u8], biases: &mut [i16]) 
         return BlockRead::Size;
     }
     // DF422: the mask.
-    let Unsigned::Value(mask, at) = field::read_unsigned(bytes, start, 4) else {
-        return BlockRead::Short(start);
+    let read = field::read_unsigned(bytes, start, 4);
+    let Unsigned::Value(mask, at) = read else {
+        return unread(read);
     };
     let extent = measure(bytes, at, signals_in(mask));
     let BlockRead::Records { count, end: _ } = extent else {
@@ -47,7 +50,7 @@ fn signals_in(mask: u64) -> usize
     (mask / 8 % 2 + mask / 4 % 2 + mask / 2 % 2 + mask % 2) as usize
 }
 
-// Where n biases end. Each has 16 bits, so none of them has to be read.
+// Where n biases end. Each has 16 bits, so none has to be read but the one that does not fit.
 fn measure(bytes: &[u8], start: usize, n: usize) -> BlockRead
     requires { ⌜ (length (now bytes) ≤ 1023) × (start ≤ length (now bytes) * 8) × (n ≤ 4) ⌝ }
     ensures { λ r. ⌜ ((gs : List ℕ) → length gs ≡ n → toldRead r ≡ counts 0 (biasesAt (now (bytes .entry)) gs start)) ⌝ }
@@ -59,7 +62,7 @@ fn measure(bytes: &[u8], start: usize, n: usize) -> BlockRead
             end: start + n * 16,
         };
     }
-    BlockRead::Short(start + whole * 16)
+    unread_signed(field::read_twos(bytes, start + whole * 16, 16))
 }
 
 // The biases of the mask's signals, into lists that have room for them.
@@ -106,8 +109,9 @@ fn store_bias(
     ensures { λ r. ⌜ Stored put1230 i (biasesAt (now (bytes .entry)) (signal ∷ []) start) (toldRead r) (lists1230 (now (signals .entry)) (now (biases .entry))) (lists1230 (now (signals .exit)) (now (biases .exit))) ⌝ }
 {
     // DF423 to DF426: the bias of 1C, 1P, 2C or 2P.
-    let Signed::Value(bias, end) = field::read_twos(bytes, start, 16) else {
-        return BlockRead::Short(start);
+    let read = field::read_twos(bytes, start, 16);
+    let Signed::Value(bias, end) = read else {
+        return unread_signed(read);
     };
     signals[i] = signal;
     biases[i] = bias as i16;

@@ -33,7 +33,7 @@ use Rattle.observations.proofs.ListLaws.{alike, stored-front, observati
 -- a front that is refused asks no more
 pub begun-refused : (s : List ℕ) (x : Front) → OneOf (1 ∷ 2 ∷ []) (tagOf front-type x) → Whole s x
 begun-refused s (F.Header h n) o = absurd (⊎-elim (λ p. omega arith) (λ p. omega arith) o)
-begun-refused s (F.Short p) o = tt
+begun-refused s (F.Short l) o = tt
 begun-refused s F.Kind o = tt
 
 module _ (s : List ℕ) (few : length s ≤ 1023) where
@@ -58,7 +58,7 @@ module _ (s : List ℕ) (few : length s ≤ 1023) where
   -- an observation of data that has them all is read
   pub row-there : (k n p : ℕ) → k < n → p + (n - k) * 58 ≤ length s * 8 → (x : Row) → OneOf (1 ∷ []) (tagOf row-type x) → toldRow x ≡ observation1001 .reads s p → ⊥
   row-there k n p h l (R.At o q) w e = omega (arith, w)
-  row-there k n p h l (R.Short place) w e =
+  row-there k n p h l (R.Short lack) w e =
       let d = e ∙ observation-fixed .whole s p few (omega (arith, h, l)) in
       let z : _≡_ {A = ℕ} 0 1 = cc in
       omega arith

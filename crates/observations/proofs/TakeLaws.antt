@@ -20,7 +20,8 @@ use Rattle.bits.proofs.SignedLaws.{fits-twos, twos-fits}
 use Rattle.bits.proofs.ReadLaws.{refused-short, read-tells, value-tells}
 use Rattle.observations.proofs.read.Number.{the-type as number-type}
 use Rattle.observations.proofs.read.Phase.{the-type as phase-type}
-use Rattle.observations.specs.Steps.{toldNumber, placeOf, toldPhase, phasePlaceOf}
+use Rattle.observations.specs.Steps.{toldNumber, lackOf, toldPhase, phaseLackOf}
+use Rattle.observations.specs.declared.read.Lack.{Lack}
 use Rattle.observations.specs.declared.read.Number.{Number}
 use Rattle.observations.specs.declared.read.Number.the-variants as N
 use Rattle.observations.specs.declared.read.Phase.{Phase}
@@ -73,12 +74,12 @@ phase-same s p {z} e = let m = phase-small s p e in toZ-ofZ w32 z (record { sfit
 other : {n : ℕ} → OneOf (1 ∷ []) n → n ≡ 0 → ⊥
 other o e = omega (arith, o, e)
 
-pub number-cut : (s : List ℕ) (p w : ℕ) (x : Number) → OneOf (1 ∷ []) (tagOf number-type x) → toldNumber x ≡ readUnsigned s p w → {r : ℕ} → r ≡ placeOf x
-    → readUnsigned s p w ≡ short r
+pub number-cut : (s : List ℕ) (p w : ℕ) (x : Number) → OneOf (1 ∷ []) (tagOf number-type x) → toldNumber x ≡ readUnsigned s p w → {r : Lack} → r ≡ lackOf x
+    → readUnsigned s p w ≡ short (r .place) (r .missing)
 number-cut s p w (N.At v q) o e d = absurd (other o refl)
-number-cut s p w (N.Short place) o e d = sym e ∙ ap short (sym d)
+number-cut s p w (N.Short l) o e d = sym e ∙ ap (λ (x : Lack). short (x .place) (x .missing)) (sym d)
 
-pub phase-cut : (s : List ℕ) (p : ℕ) (x : Phase) → OneOf (1 ∷ []) (tagOf phase-type x) → toldPhase x ≡ readTwos s p 20 → {r : ℕ} → r ≡ phasePlaceOf x
-    → readTwos s p 20 ≡ short r
+pub phase-cut : (s : List ℕ) (p : ℕ) (x : Phase) → OneOf (1 ∷ []) (tagOf phase-type x) → toldPhase x ≡ readTwos s p 20 → {r : Lack} → r ≡ phaseLackOf x
+    → readTwos s p 20 ≡ short (r .place) (r .missing)
 phase-cut s p (P.At z q) o e d = absurd (other o refl)
-phase-cut s p (P.Short place) o e d = sym e ∙ ap short (sym d)
+phase-cut s p (P.Short l) o e d = sym e ∙ ap (λ (x : Lack). short (x .place) (x .missing)) (sym d)

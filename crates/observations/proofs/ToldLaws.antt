@@ -27,13 +27,13 @@ use Rattle.observations.specs.Answers.{toldRead, toldWritten}
 read : Told Seen → MessageRead
 read (Accepted s) = R.Observations (s .header) (s .count) (s .end)
 read (Refused n carried) =
-    cond (eqb n 9) R.Size (cond (eqb n 13) R.Kind (cond (eqb n 1) (R.Short (getD carried 0 0)) (R.Room (getD carried 0 0))))
+    cond (eqb n 9) R.Size (cond (eqb n 13) R.Kind (cond (eqb n 1) (R.Short (getD carried 0 0) (getD carried 1 0)) (R.Room (getD carried 0 0))))
 
 read-again : (x : MessageRead) → read (toldRead x) ≡ x
 unfolding read
 read-again (R.Observations h n q) = refl
 read-again R.Size = refl
-read-again (R.Short p) = refl
+read-again (R.Short p m) = refl
 read-again R.Kind = refl
 read-again (R.Room n) = refl
 

@@ -11,7 +11,7 @@ use Rattle.observations.specs.declared.answer.MessageWritten.the-variant
 abbrev pub toldRead : MessageRead → Told Seen
 toldRead (R.Observations h n q) = Accepted (seen h n q)
 toldRead R.Size = size
-toldRead (R.Short p) = short p
+toldRead (R.Short p m) = short p m
 toldRead R.Kind = kind
 toldRead (R.Room n) = room n
 

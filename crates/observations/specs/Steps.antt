@@ -22,6 +22,7 @@ use Rattle.observations.specs.declared.read.Number.{Number}
 use Rattle.observations.specs.declared.read.Number.the-variants as N
 use Rattle.observations.specs.declared.read.Row.{Row}
 use Rattle.observations.specs.declared.read.Row.the-variants as R
+use Rattle.observations.specs.declared.read.Lack.{Lack}
 use Rattle.observations.specs.declared.read.Phase.{Phase}
 use Rattle.observations.specs.declared.read.Phase.the-variants as P
 use Rattle.observations.specs.declared.write.Fault.{Fault}
@@ -33,46 +34,46 @@ use Rattle.observations.specs.declared.write.First.the-variants as I
 
 abbrev pub toldNumber : Number → Told (Reading ℕ)
 toldNumber (N.At v q) = Accepted (reading v q)
-toldNumber (N.Short p) = short p
+toldNumber (N.Short l) = short (l .place) (l .missing)
 
 abbrev pub numberOf : Number → ℕ
 numberOf (N.At v q) = v
-numberOf (N.Short p) = 0
+numberOf (N.Short l) = 0
 
-abbrev pub placeOf : Number → ℕ
-placeOf (N.At v q) = 0
-placeOf (N.Short p) = p
+abbrev pub lackOf : Number → Lack
+lackOf (N.At v q) = record { place = 0; missing = 0 }
+lackOf (N.Short l) = l
 
 abbrev pub toldPhase : Phase → Told (Reading ℤ)
 toldPhase (P.At z q) = Accepted (reading z q)
-toldPhase (P.Short p) = short p
+toldPhase (P.Short l) = short (l .place) (l .missing)
 
-abbrev pub phasePlaceOf : Phase → ℕ
-phasePlaceOf (P.At z q) = 0
-phasePlaceOf (P.Short p) = p
+abbrev pub phaseLackOf : Phase → Lack
+phaseLackOf (P.At z q) = record { place = 0; missing = 0 }
+phaseLackOf (P.Short l) = l
 
 abbrev pub toldRow : Row → Told (Reading Observation)
 toldRow (R.At o q) = Accepted (reading o q)
-toldRow (R.Short p) = short p
+toldRow (R.Short l) = short (l .place) (l .missing)
 
 -- ---- the first pass
 
 -- the message, from what its front tells
 abbrev pub onward : List ℕ → Front → Told (Reading Message)
 onward s (F.Header h n) = andThen (times n observation1001 .reads s 64) (λ os. Accepted (reading (message h (os .value)) (os .next)))
-onward s (F.Short p) = short p
+onward s (F.Short l) = short (l .place) (l .missing)
 onward s F.Kind = kind
 
 -- the header ends at bit 64, and the count has five bits
 abbrev pub Begun : List ℕ → Front → Type 0
 Begun s (F.Header h n) = (n ≤ 31) × (64 ≤ length s * 8)
-Begun s (F.Short p) = Unit
+Begun s (F.Short l) = Unit
 Begun s F.Kind = Unit
 
 -- and all observations are there
 abbrev pub Whole : List ℕ → Front → Type 0
 Whole s (F.Header h n) = (n ≤ 31) × (64 + n * 58 ≤ length s * 8)
-Whole s (F.Short p) = Unit
+Whole s (F.Short l) = Unit
 Whole s F.Kind = Unit
 
 -- ---- the second pass

@@ -26,8 +26,8 @@ pub enum MessageRead {
         end: usize,
     },
     Size,
-    // Carries the bit where the first field starts that does not fit.
-    Short(usize),
+    // Carries the bit where the first field starts that does not fit, and how many of its bits are missing.
+    Short(usize, usize),
     Kind,
     // Carries the observations of the message.
     Room(usize),

@@ -8,7 +8,7 @@ ghost use Rattle.observations.specs.Message1001.{message1001, observatio
 ghost use Rattle.observations.specs.Lists.{lists, evenCounts};
 ghost use Rattle.observations.specs.Read1001.{read1001};
 ghost use Rattle.observations.specs.Answers.{toldRead};
-ghost use Rattle.observations.specs.Steps.{toldNumber, numberOf, placeOf, toldPhase, phasePlaceOf, toldRow, onward, Begun, Whole, Ready, observationsAt, stored};
+ghost use Rattle.observations.specs.Steps.{toldNumber, numberOf, lackOf, toldPhase, phaseLackOf, toldRow, onward, Begun, Whole, Ready, observationsAt, stored};
 use crate::answer::Header;
 use crate::answer::MessageRead;
 use crate::answer::Observation;
@@ -40,7 +40,7 @@ pub fn read(
         return MessageRead::Size;
     }
     match extent(bytes) {
-        Front::Short(place) => MessageRead::Short(place),
+        Front::Short(lack) => MessageRead::Short(lack.place, lack.missing),
         Front::Kind => MessageRead::Kind,
         Front::Header(header, count) => {
             if satellites.len() < count {
@@ -77,7 +77,7 @@ pub(crate) fn even(a: usize, b: usize, c: usize, d: usize, e: usize) -> bool
 // What stands before the observations, and how many there are; or a refusal.
 pub(crate) enum Front {
     Header(Header, usize),
-    Short(usize),
+    Short(Lack),
     Kind,
 }
 
@@ -96,7 +96,7 @@ fn extent(bytes: &[u8]) -> Front
     }
     match row_at(bytes, 64 + there * 58) {
         Row::At(_, _) => Front::Kind,
-        Row::Short(place) => Front::Short(place),
+        Row::Short(lack) => Front::Short(lack),
     }
 }
 
@@ -108,7 +108,7 @@ fn begin(bytes: &[u8]) -> Front
     // DF002: the message number.
     let number = take(bytes, 0, 12);
     let Number::At(n, at) = number else {
-        return Front::Short(place_of(number));
+        return Front::Short(lack_of(number));
     };
     if n != 1001 {
         return Front::Kind;
@@ -124,32 +124,32 @@ fn header_at(bytes: &[u8], start: usize) -> Front
     // DF003: the reference station.
     let number = take(bytes, start, 12);
     let Number::At(station, at) = number else {
-        return Front::Short(place_of(number));
+        return Front::Short(lack_of(number));
     };
     // DF004: the GPS epoch time.
     let number = take(bytes, at, 30);
     let Number::At(epoch, at) = number else {
-        return Front::Short(place_of(number));
+        return Front::Short(lack_of(number));
     };
     // DF005: the synchronous GNSS flag.
     let number = take(bytes, at, 1);
     let Number::At(synchronous, at) = number else {
-        return Front::Short(place_of(number));
+        return Front::Short(lack_of(number));
     };
     // DF006: the number of satellites.
     let number = take(bytes, at, 5);
     let Number::At(count, at) = number else {
-        return Front::Short(place_of(number));
+        return Front::Short(lack_of(number));
     };
     // DF007: the divergence-free smoothing indicator.
     let number = take(bytes, at, 1);
     let Number::At(smoothing, at) = number else {
-        return Front::Short(place_of(number));
+        return Front::Short(lack_of(number));
     };
     // DF008: the smoothing interval.
     let number = take(bytes, at, 3);
     let Number::At(interval, _) = number else {
-        return Front::Short(place_of(number));
+        return Front::Short(lack_of(number));
     };
     let header = Header {
         station,
@@ -161,10 +161,16 @@ fn header_at(bytes: &[u8], start: usize) -> Front
     Front::Header(header, count as usize)
 }
 
+// What Short tells of a field: the bit where it starts, and how many of its bits are missing.
+pub(crate) struct Lack {
+    pub place: usize,
+    pub missing: usize,
+}
+
 // A number of at most 32 bits and the bit behind it, or Short.
 pub(crate) enum Number {
     At(u32, usize),
-    Short(usize),
+    Short(Lack),
 }
 
 // The number of `width` bits from bit `start` on.
@@ -174,19 +180,28 @@ fn take(bytes: &[u8], start: usize, width: usize) -> Number
 {
     match field::read_unsigned(bytes, start, width) {
         Unsigned::Value(v, next) => Number::At(v as u32, next),
-        Unsigned::Short(place) => Number::Short(place),
-        Unsigned::Size => Number::Short(start),
-        Unsigned::Width => Number::Short(start),
+        Unsigned::Short(place, missing) => Number::Short(Lack { place, missing }),
+        Unsigned::Size => Number::Short(Lack {
+            place: start,
+            missing: 0,
+        }),
+        Unsigned::Width => Number::Short(Lack {
+            place: start,
+            missing: 0,
+        }),
     }
 }
 
-// Where the field starts that does not fit.
-fn place_of(number: Number) -> usize
-    ensures { λ r. ⌜ r ≡ placeOf number ⌝ }
+// What Short tells of the field that does not fit.
+fn lack_of(number: Number) -> Lack
+    ensures { λ r. ⌜ r ≡ lackOf number ⌝ }
 {
     match number {
-        Number::At(_, _) => 0,
-        Number::Short(place) => place,
+        Number::At(_, _) => Lack {
+            place: 0,
+            missing: 0,
+        },
+        Number::Short(lack) => lack,
     }
 }
 
@@ -195,7 +210,7 @@ fn place_of(number: Number) -> usize
 // An observation and the bit behind it, or Short.
 pub(crate) enum Row {
     At(Observation, usize),
-    Short(usize),
+    Short(Lack),
 }
 
 // The observation from bit `start` on.
@@ -206,27 +221,27 @@ fn row_at(bytes: &[u8], start: usize) -> Row
     // DF009: the satellite.
     let number = take(bytes, start, 6);
     let Number::At(satellite, at) = number else {
-        return Row::Short(place_of(number));
+        return Row::Short(lack_of(number));
     };
     // DF010: the L1 code indicator.
     let number = take(bytes, at, 1);
     let Number::At(code, at) = number else {
-        return Row::Short(place_of(number));
+        return Row::Short(lack_of(number));
     };
     // DF011: the L1 pseudorange.
     let number = take(bytes, at, 24);
     let Number::At(pseudorange, at) = number else {
-        return Row::Short(place_of(number));
+        return Row::Short(lack_of(number));
     };
     // DF012: the L1 phase range less the pseudorange.
     let measured = take_phase(bytes, at);
     let Phase::At(phase, at) = measured else {
-        return Row::Short(place_of_phase(measured));
+        return Row::Short(lack_of_phase(measured));
     };
     // DF013: the L1 lock time indicator.
     let number = take(bytes, at, 7);
     let Number::At(lock, at) = number else {
-        return Row::Short(place_of(number));
+        return Row::Short(lack_of(number));
     };
     let seen = Observation {
         satellite: satellite as u8,
@@ -241,7 +256,7 @@ fn row_at(bytes: &[u8], start: usize) -> Row
 // A phase range and the bit behind it, or Short.
 pub(crate) enum Phase {
     At(i32, usize),
-    Short(usize),
+    Short(Lack),
 }
 
 // The phase range from bit `start` on: 20 bits in two's complement.
@@ -251,19 +266,28 @@ fn take_phase(bytes: &[u8], start: usize) -> Phase
 {
     match field::read_twos(bytes, start, 20) {
         Signed::Value(z, next) => Phase::At(z as i32, next),
-        Signed::Short(place) => Phase::Short(place),
-        Signed::Size => Phase::Short(start),
-        Signed::Width => Phase::Short(start),
+        Signed::Short(place, missing) => Phase::Short(Lack { place, missing }),
+        Signed::Size => Phase::Short(Lack {
+            place: start,
+            missing: 0,
+        }),
+        Signed::Width => Phase::Short(Lack {
+            place: start,
+            missing: 0,
+        }),
     }
 }
 
-// Where the phase range starts that does not fit.
-fn place_of_phase(phase: Phase) -> usize
-    ensures { λ r. ⌜ r ≡ phasePlaceOf phase ⌝ }
+// What Short tells of the phase range that does not fit.
+fn lack_of_phase(phase: Phase) -> Lack
+    ensures { λ r. ⌜ r ≡ phaseLackOf phase ⌝ }
 {
     match phase {
-        Phase::At(_, _) => 0,
-        Phase::Short(place) => place,
+        Phase::At(_, _) => Lack {
+            place: 0,
+            missing: 0,
+        },
+        Phase::Short(lack) => lack,
     }
 }
 

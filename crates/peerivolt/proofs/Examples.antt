@@ -5,7 +5,7 @@ use Prim.Native.Nat.{ℕ, _-_, _^_}
 use lib.ListN.{replicate}
 use Rattle.bits.specs.Told.{Accepted}
 use Rattle.bits.specs.Signed.{twosOf}
-use Rattle.bits.specs.Field.{field, setBit, putField, withBit, readBy, readUnsigned, readTwos, writeBy, writeUnsigned}
+use Rattle.bits.specs.Field.{field, missing, setBit, putField, withBit, readBy, readUnsigned, readTwos, writeBy, writeUnsigned}
 use Rattle.bits.specs.Crc.{crcBit, crcBits, crcByte, crcFrom, crc}
 use Rattle.frames.specs.Frame.{check}
 use Rattle.messages.specs.SignalOrder.{less}
@@ -25,11 +25,11 @@ pub checked :
 unfolding answered check field crcBit crcBits crcByte crcFrom crc
 checked = refl
 
--- refused: Incomplete carries nothing, Short the place
+-- refused: Incomplete carries nothing, Short the place and the bits that are missing
 pub refused :
     (reads wholeValues (check []) rubbish ≡ returned 12 (replicate 8 0) tt)
-    × (reads readingValues (readUnsigned (0 ∷ []) 3 8) rubbish ≡ returned 1 (3 ∷ replicate 7 0) tt)
-unfolding answered check readBy field
+    × (reads readingValues (readUnsigned (0 ∷ []) 3 8) rubbish ≡ returned 1 (3 ∷ 3 ∷ replicate 6 0) tt)
+unfolding answered check readBy field missing
 refused = (refl, refl)
 
 -- an extra area of seven or nine numbers: Size, and it stays, and so do the data of a call that writes

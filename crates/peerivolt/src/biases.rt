@@ -125,7 +125,7 @@ fn block_read(answer: BlockRead) -> Reply
     match answer {
         BlockRead::Records { count, end } => extra::with_two(0, count as u64, end as u64),
         BlockRead::Size => extra::bare(9),
-        BlockRead::Short(place) => extra::with_one(1, place as u64),
+        BlockRead::Short(place, missing) => extra::with_two(1, place as u64, missing as u64),
         BlockRead::Room(records) => extra::with_one(8, records as u64),
     }
 }

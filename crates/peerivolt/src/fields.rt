@@ -139,7 +139,7 @@ fn unsigned_read(read: Unsigned) -> Reply
         Unsigned::Value(v, _) => extra::with_one(0, v),
         Unsigned::Size => extra::bare(9),
         Unsigned::Width => extra::bare(2),
-        Unsigned::Short(place) => extra::with_one(1, place as u64),
+        Unsigned::Short(place, missing) => extra::with_two(1, place as u64, missing as u64),
     }
 }
 
@@ -150,7 +150,7 @@ fn signed_read(read: Signed) -> Reply
         Signed::Value(z, _) => extra::with_one(0, extra::in_64_bits(z)),
         Signed::Size => extra::bare(9),
         Signed::Width => extra::bare(2),
-        Signed::Short(place) => extra::with_one(1, place as u64),
+        Signed::Short(place, missing) => extra::with_two(1, place as u64, missing as u64),
     }
 }
 

@@ -79,7 +79,7 @@ fn heading(number: u64, place: u64, answer: BlockRead, out: &mut [u8; 65536], at
     match answer {
         BlockRead::Records { count, end: _ } => told(b": ", count, b" biases\n", out, at),
         BlockRead::Size => text(out, at, b": refused, Size\n"),
-        BlockRead::Short(bit) => told(b": refused, Short at data bit ", bit, b"\n", out, at),
+        BlockRead::Short(bit, _) => told(b": refused, Short at data bit ", bit, b"\n", out, at),
         BlockRead::Room(count) => told(b": refused, Room for ", count, b" records\n", out, at),
     }
 }

@@ -199,7 +199,7 @@ fn unsigned(name: &[u8], bytes: &[u8], start: usize, width: usize) {
         }
         Unsigned::Size => text(b"Size\n"),
         Unsigned::Width => text(b"Width\n"),
-        Unsigned::Short(place) => numbered(b"Short ", place),
+        Unsigned::Short(place, _) => numbered(b"Short ", place),
     }
 }
 
@@ -221,7 +221,7 @@ fn signed(read: Signed) {
         }
         Signed::Size => text(b"Size\n"),
         Signed::Width => text(b"Width\n"),
-        Signed::Short(place) => numbered(b"Short ", place),
+        Signed::Short(place, _) => numbered(b"Short ", place),
     }
 }
 

@@ -53,7 +53,10 @@ impl Case for Read {
                     && self.holds(&lists, records)
             }
             Err("BufferOverflow") => {
-                told == Told::refused(pv::SHORT, place as u64) && lists == self.lists(&[])
+                let missing = told.extra[1];
+                told == Told::short(place as u64, missing)
+                    && (1..=16).contains(&missing)
+                    && lists == self.lists(&[])
             }
             Err(_) => false,
         };

@@ -180,8 +180,10 @@ fn refusal(told: &Told) -> Option<String> {
         pv::BAD_CHECK => "BadCheck",
         _ => "a number without a name",
     };
-    let carries = matches!(told.number, pv::SHORT | pv::RANGE..=pv::ROOM);
-    Some(if carries {
+    let carries = matches!(told.number, pv::RANGE..=pv::ROOM);
+    Some(if told.number == pv::SHORT {
+        format!("{name}, carrying {carried} and {}", told.extra[1])
+    } else if carries {
         format!("{name}, carrying {carried}")
     } else {
         name.to_string()

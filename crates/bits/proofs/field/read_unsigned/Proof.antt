@@ -27,15 +27,21 @@ mul-all c =
     let f = firm _ _ (sym (c .before .before .ground-of .ensures) ∙ c .enum-told3 .given .1) in
     omega (arith, f)
 
+cut-requires : tie.Need-cut-requires
+cut-requires c κs = omega arith
+
 returns : tie.Need-returns
 returns c =
-    let e = sym (c .before .before .before .ground-of .ensures) ∙ c .before .enum-told3 .given .1 in
-    read-short (λ v. v) _ _ _ e (omega arith)
+    let e = sym (c .before .before .before .before .ground-of .ensures) ∙ c .before .before .enum-told3 .given .1 in
+    c .cut .ensures ∙ read-short (λ v. v) _ _ _ e (omega arith)
+
+cut-requires-2 : tie.Need-cut-requires-2
+cut-requires-2 c κs = omega arith
 
 returns-2 : tie.Need-returns-2
 returns-2 c =
-    let e = sym (c .before .before .before .before .ground-of .ensures) ∙ c .before .before .enum-told3 .given .1 in
-    read-short (λ v. v) _ _ _ e (omega arith)
+    let e = sym (c .before .before .before .before .before .ground-of .ensures) ∙ c .before .before .before .enum-told3 .given .1 in
+    c .cut2 .ensures ∙ read-short (λ v. v) _ _ _ e (omega arith)
 
 field-at-requires : tie.Need-field-at-requires
 field-at-requires c κs =
@@ -68,7 +74,9 @@ read-unsigned-spec =
     enum-told-2
     enum-told-3
     mul-all
+    cut-requires
     returns
+    cut-requires-2
     returns-2
     field-at-requires
     add-t8

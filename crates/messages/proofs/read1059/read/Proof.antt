@@ -4,7 +4,7 @@ use native.Mathlib.Omega.{arith}
 use Rattle.bits.specs.Answers.{toldUnsigned}
 use Rattle.messages.specs.ReadSteps.{put1059}
 use Rattle.messages.specs.Answers.{toldRead}
-use Rattle.messages.proofs.ArmLaws.{unsigned-cut, value-within, short-refused, read-refused}
+use Rattle.messages.proofs.ArmLaws.{unsigned-cut, value-within, is-short, read-refused}
 use Rattle.messages.proofs.PassLaws.{counts-short}
 use Rattle.messages.proofs.CallLaws.{has-room, refuses, lacks-room, reads}
 use Rattle.messages.proofs.Read1059Laws.{too-long, uneven, uneven-2, block-cut, block-read, outcomeOf, call1059}
@@ -23,24 +23,24 @@ returns-3 c = uneven-2 _ _ _ _ _ (omega arith) (c .before .if2 .left) (c .if3 .t
 
 returns-4 : tie.Need-returns-4
 returns-4 c =
-    let r = c .before .read-unsigned in
-    let b = block-cut _ _ (unsigned-cut _ _ 6 (omega arith) (omega arith) (omega arith) (r .result) (r .ensures) (c .match .keys2)) in
-    refuses put1059 outcomeOf (call1059 _ _ _ _ _ (omega arith) (c .before .before .before .if2 .left) (c .before .before .if3 .left) b) (short-refused _) (counts-short 0 _ refl)
+    let r = c .before .before .read-unsigned in
+    let k = unsigned-cut _ _ 6 (omega arith) (omega arith) (omega arith) (r .result) (r .ensures) (c .before .match .keys2) (c .unread .ensures) in
+    refuses put1059 outcomeOf (call1059 _ _ _ _ _ (omega arith) (c .before .before .before .before .if2 .left) (c .before .before .before .if3 .left) (block-cut _ _ (k .0))) (is-short (k .1)) (counts-short 0 refl (k .1))
 
 measure-requires : tie.Need-measure-requires
 measure-requires c κs =
-    let t = value-within _ _ 6 (sym (c .before .before .before .read-unsigned .ensures) ∙ ap toldUnsigned (c .before .n .given .1)) in
+    let t = value-within _ _ 6 (sym (c .before .before .before .read-unsigned .ensures) ∙ ap toldUnsigned (c .before .read .given .1)) in
     (omega arith, omega arith)
 
 returns-5 : tie.Need-returns-5
 returns-5 c =
-    let b = block-read _ _ (sym (c .before .before .before .before .before .read-unsigned .ensures) ∙ ap toldUnsigned (c .before .before .before .n .given .1)) in
+    let b = block-read _ _ (sym (c .before .before .before .before .before .read-unsigned .ensures) ∙ ap toldUnsigned (c .before .before .before .read .given .1)) in
     let m = c .before .measure in
     refuses put1059 outcomeOf (call1059 _ _ _ _ _ (omega arith) (c .before .before .before .before .before .before .before .if2 .left) (c .before .before .before .before .before .before .if3 .left) b) (read-refused (m .result) (c .match2 .keys2)) (m .ensures)
 
 returns-6 : tie.Need-returns-6
 returns-6 c =
-    let b = block-read _ _ (sym (c .before .before .before .before .before .before .before .before .read-unsigned .ensures) ∙ ap toldUnsigned (c .before .before .before .before .before .before .n .given .1)) in
+    let b = block-read _ _ (sym (c .before .before .before .before .before .before .before .before .read-unsigned .ensures) ∙ ap toldUnsigned (c .before .before .before .before .before .before .read .given .1)) in
     let e = ap toldRead (sym (c .before .before .extent .given .1)) ∙ c .before .before .before .before .measure .ensures in
     lacks-room put1059 outcomeOf (call1059 _ _ _ _ _ (omega arith) (c .before .before .before .before .before .before .before .before .before .before .if2 .left) (c .before .before .before .before .before .before .before .before .before .if3 .left) b) e (omega arith)
 
@@ -51,7 +51,7 @@ store-requires c κs =
 
 returns-7 : tie.Need-returns-7
 returns-7 c =
-    let b = block-read _ _ (sym (c .before .before .before .before .before .before .before .before .before .before .before .before .before .before .before .before .before .read-unsigned .ensures) ∙ ap toldUnsigned (c .before .before .before .before .before .before .before .before .before .before .before .before .before .before .before .n .given .1)) in
+    let b = block-read _ _ (sym (c .before .before .before .before .before .before .before .before .before .before .before .before .before .before .before .before .before .read-unsigned .ensures) ∙ ap toldUnsigned (c .before .before .before .before .before .before .before .before .before .before .before .before .before .before .before .read .given .1)) in
     let e = ap toldRead (sym (c .before .before .before .before .before .before .before .before .before .before .before .extent .given .1)) ∙ c .before .before .before .before .before .before .before .before .before .before .before .before .before .measure .ensures in
     reads put1059 outcomeOf (call1059 _ _ _ _ _ (omega arith) (c .before .before .before .before .before .before .before .before .before .before .before .before .before .before .before .before .before .before .before .if2 .left) (c .before .before .before .before .before .before .before .before .before .before .before .before .before .before .before .before .before .before .if3 .left) b) (has-room _ _ e (omega arith)) (c .before .before .before .before .before .store .ensures)
 
@@ -64,6 +64,7 @@ read-spec =
     returns-3
     (λ c κs. search needs)
     (λ c. search needs)
+    (λ c κs. search needs)
     returns-4
     measure-requires
     (λ c. search needs)

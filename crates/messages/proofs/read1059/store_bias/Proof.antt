@@ -14,55 +14,59 @@ use Rattle.messages.proofs.read1059.store_bias.Tie as tie
 
 returns : tie.Need-returns
 returns c =
-    let few = c .before .before .before .before .before .pre .few in
-    stored-short put1059 (bias-cut _ _ _ (unsigned-cut _ _ 5 few (omega arith) (omega arith) (c .before .read-unsigned .result) (c .before .read-unsigned .ensures) (c .match .keys2))) (put1059-none _ _)
+    let few = c .before .before .before .before .before .before .pre .few in
+    let r = c .before .before .read-unsigned in
+    let k = unsigned-cut _ _ 5 few (omega arith) (omega arith) (r .result) (r .ensures) (c .before .match .keys2) (c .unread .ensures) in
+    stored-short put1059 (bias-cut _ _ _ (k .0)) (k .1) (put1059-none _ _)
 
 returns-2 : tie.Need-returns-2
 returns-2 c =
-    let b = c .before .before .before in
+    let b = c .before .before .before .before in
     let few = b .before .before .before .before .before .before .pre .few in
-    let e = sym (b .before .before .read-unsigned .ensures) ∙ ap toldUnsigned (b .signal .given .1) in
-    stored-short put1059 (bias-cut-2 _ _ _ e (twos-cut _ _ 14 few (omega arith) (omega arith) (c .before .read-twos .result) (c .before .read-twos .ensures) (c .match2 .keys2))) (put1059-none _ _)
+    let e = sym (b .before .before .read-unsigned .ensures) ∙ ap toldUnsigned (b .read .given .1) in
+    let r = c .before .before .read-twos in
+    let k = twos-cut _ _ 14 few (omega arith) (omega arith) (r .result) (r .ensures) (c .before .match2 .keys2) (c .unread-signed .ensures) in
+    stored-short put1059 (bias-cut-2 _ _ _ e (k .0)) (k .1) (put1059-none _ _)
 
 slice-write-satellites : tie.Need-slice-write-satellites
 slice-write-satellites c =
     let b = c .before .before .before .before .before in
-    let e = sym (b .before .before .read-unsigned .ensures) ∙ ap toldUnsigned (b .signal .given .1) in
-    let f = sym (c .before .before .before .read-twos .ensures) ∙ ap toldSigned (c .before .bias .given .1) in
+    let e = sym (b .before .before .read-unsigned .ensures) ∙ ap toldUnsigned (b .read .given .1) in
+    let f = sym (c .before .before .before .read-twos .ensures) ∙ ap toldSigned (c .before .read2 .given .1) in
     let h = placed-one (b .before .before .before .before .before .before .pre .placed) (bias-read _ _ _ e f) in
     omega arith
 
 cast-signals : tie.Need-cast-signals
 cast-signals c =
     let b = c .before .before .before .before .before in
-    let t = value-within _ _ 5 (sym (b .before .before .read-unsigned .ensures) ∙ ap toldUnsigned (b .signal .given .1)) in
+    let t = value-within _ _ 5 (sym (b .before .before .read-unsigned .ensures) ∙ ap toldUnsigned (b .read .given .1)) in
     omega arith
 
 slice-write-signals : tie.Need-slice-write-signals
 slice-write-signals c =
     let b = c .before .before .before .before .before in
-    let e = sym (b .before .before .read-unsigned .ensures) ∙ ap toldUnsigned (b .signal .given .1) in
-    let f = sym (c .before .before .before .read-twos .ensures) ∙ ap toldSigned (c .before .bias .given .1) in
+    let e = sym (b .before .before .read-unsigned .ensures) ∙ ap toldUnsigned (b .read .given .1) in
+    let f = sym (c .before .before .before .read-twos .ensures) ∙ ap toldSigned (c .before .read2 .given .1) in
     let h = placed-one (b .before .before .before .before .before .before .pre .placed) (bias-read _ _ _ e f) in
     omega arith
 
 cast-biases : tie.Need-cast-biases
 cast-biases c =
-    bias-narrow _ _ 14 (omega arith) (sym (c .before .before .before .read-twos .ensures) ∙ ap toldSigned (c .before .bias .given .1)) .0
+    bias-narrow _ _ 14 (omega arith) (sym (c .before .before .before .read-twos .ensures) ∙ ap toldSigned (c .before .read2 .given .1)) .0
 
 slice-set-from-biases : tie.Need-slice-set-from-biases
 slice-set-from-biases c =
     let b = c .before .before .before .before .before in
-    let e = sym (b .before .before .read-unsigned .ensures) ∙ ap toldUnsigned (b .signal .given .1) in
-    let f = sym (c .before .before .before .read-twos .ensures) ∙ ap toldSigned (c .before .bias .given .1) in
+    let e = sym (b .before .before .read-unsigned .ensures) ∙ ap toldUnsigned (b .read .given .1) in
+    let f = sym (c .before .before .before .read-twos .ensures) ∙ ap toldSigned (c .before .read2 .given .1) in
     let h = placed-one (b .before .before .before .before .before .before .pre .placed) (bias-read _ _ _ e f) in
     omega arith
 
 returns-3 : tie.Need-returns-3
 returns-3 c =
     let b = c .before .before .before .before .before in
-    let e = sym (b .before .before .read-unsigned .ensures) ∙ ap toldUnsigned (b .signal .given .1) in
-    let f = sym (c .before .before .before .read-twos .ensures) ∙ ap toldSigned (c .before .bias .given .1) in
+    let e = sym (b .before .before .read-unsigned .ensures) ∙ ap toldUnsigned (b .read .given .1) in
+    let f = sym (c .before .before .before .read-twos .ensures) ∙ ap toldSigned (c .before .read2 .given .1) in
     bias-stored _ _ _ _ _ _ _ e f (bias-narrow _ _ 14 (omega arith) f .1)
 
 pub store-bias-spec : {M : Type 1} → statement M
@@ -71,9 +75,11 @@ store-bias-spec =
     (tie.spec
     (λ c κs. search needs)
     (λ c. search needs)
+    (λ c κs. search needs)
     returns
     (λ c κs. search needs)
     (λ c. search needs)
+    (λ c κs. search needs)
     returns-2
     slice-write-satellites
     cast-signals

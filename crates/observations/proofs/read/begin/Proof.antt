@@ -9,7 +9,7 @@ use Rattle.observations.proofs.read.begin.Statement.{statement}
 use Rattle.observations.proofs.read.begin.Tie as tie
 
 returns : tie.Need-returns
-returns c = (number-cut _ (cut _ 0 12 (c .before .before .before .take .result) (c .before .before .match .keys2) (c .before .before .before .take .ensures .0) (c .place-of .ensures)), tt)
+returns c = (number-cut _ (cut _ 0 12 (c .before .before .before .take .result) (c .before .before .match .keys2) (c .before .before .before .take .ensures .0) (c .lack-of .ensures)), tt)
 
 returns-2 : tie.Need-returns-2
 returns-2 c = (number-other _ (sym (c .before .before .before .before .take .ensures .0) ∙ ap toldNumber (c .before .before .number .given .1)) (c .if1 .taken), tt)

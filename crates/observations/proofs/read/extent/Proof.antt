@@ -27,7 +27,7 @@ returns-3 c =
 returns-4 : tie.Need-returns-4
 returns-4 c =
     let b = subst (Begun _) (c .before .before .before .before .before .before .begun .given .1) (c .before .before .before .before .before .before .before .before .begin .ensures .1) in
-    (c .before .before .before .before .before .before .before .before .begin .ensures .0 ∙ ap (onward _) (c .before .before .before .before .before .before .begun .given .1) ∙ rows-cut _ (c .before .before .before .before .before .before .before .before .before .before .pre) _ _ _ (omega (arith, b .1, c .before .before .before .before .if1 .left)) (omega (arith, b .1)) (sym (c .before .before .before .row-at .ensures) ∙ ap toldRow (c .before .place .given .1)), tt)
+    (c .before .before .before .before .before .before .before .before .begin .ensures .0 ∙ ap (onward _) (c .before .before .before .before .before .before .begun .given .1) ∙ rows-cut _ (c .before .before .before .before .before .before .before .before .before .before .pre) _ _ _ (omega (arith, b .1, c .before .before .before .before .if1 .left)) (omega (arith, b .1)) (sym (c .before .before .before .row-at .ensures) ∙ ap toldRow (c .before .lack .given .1)), tt)
 
 pub extent-spec : {M : Type 1} → statement M
 extent-spec =

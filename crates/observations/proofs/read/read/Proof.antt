@@ -32,7 +32,7 @@ add-t32 : tie.Need-add-t32
 add-t32 c = let w = subst (Whole _) (c .before .before .before .before .before .before .before .before .before .before .before .before .before .before .before .before .before .header .given .1) (c .before .before .before .before .before .before .before .before .before .before .before .before .before .before .before .before .before .before .before .extent .ensures .1) in omega (arith, w .0)
 
 returns-4 : tie.Need-returns-4
-returns-4 c = refused _ _ (c .before .before .before .before .before .before .if1 .left) (sym (c .before .before .before .before .before .even .ensures) ∙ not-false _ (c .before .before .before .before .if2 .left)) (c .before .before .before .extent .ensures .0 ∙ ap (onward _) (c .before .place .given .1))
+returns-4 c = refused _ _ (c .before .before .before .before .before .before .if1 .left) (sym (c .before .before .before .before .before .even .ensures) ∙ not-false _ (c .before .before .before .before .if2 .left)) (c .before .before .before .extent .ensures .0 ∙ ap (onward _) (c .before .lack .given .1))
 
 returns-5 : tie.Need-returns-5
 returns-5 c = refused _ _ (c .before .before .before .before .before .if1 .left) (sym (c .before .before .before .before .even .ensures) ∙ not-false _ (c .before .before .before .if2 .left)) (c .before .before .extent .ensures .0 ∙ ap (onward _) (c .enum-told .given .1))

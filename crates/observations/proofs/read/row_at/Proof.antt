@@ -10,23 +10,23 @@ use Rattle.observations.proofs.read.row_at.Tie as tie
 
 returns : tie.Need-returns
 returns c =
-    sym (row-cut1 _ _ (number-cut _ _ 6 (c .before .before .before .take .result) (c .before .before .match .keys2) (c .before .before .before .take .ensures .0) (c .place-of .ensures)))
+    sym (row-cut1 _ _ (number-cut _ _ 6 (c .before .before .before .take .result) (c .before .before .match .keys2) (c .before .before .before .take .ensures .0) (c .lack-of .ensures)))
 
 returns-2 : tie.Need-returns-2
 returns-2 c =
-    sym (row-cut2 _ _ (sym (c .before .before .before .before .before .before .before .take .ensures .0) ∙ ap toldNumber (c .before .before .before .before .before .number .given .1)) (number-cut _ _ 1 (c .before .before .before .take2 .result) (c .before .before .match2 .keys2) (c .before .before .before .take2 .ensures .0) (c .place-of2 .ensures)))
+    sym (row-cut2 _ _ (sym (c .before .before .before .before .before .before .before .take .ensures .0) ∙ ap toldNumber (c .before .before .before .before .before .number .given .1)) (number-cut _ _ 1 (c .before .before .before .take2 .result) (c .before .before .match2 .keys2) (c .before .before .before .take2 .ensures .0) (c .lack-of2 .ensures)))
 
 returns-3 : tie.Need-returns-3
 returns-3 c =
-    sym (row-cut3 _ _ (sym (c .before .before .before .before .before .before .before .before .before .before .before .take .ensures .0) ∙ ap toldNumber (c .before .before .before .before .before .before .before .before .before .number .given .1)) (sym (c .before .before .before .before .before .before .before .take2 .ensures .0) ∙ ap toldNumber (c .before .before .before .before .before .number2 .given .1)) (number-cut _ _ 24 (c .before .before .before .take3 .result) (c .before .before .match3 .keys2) (c .before .before .before .take3 .ensures .0) (c .place-of3 .ensures)))
+    sym (row-cut3 _ _ (sym (c .before .before .before .before .before .before .before .before .before .before .before .take .ensures .0) ∙ ap toldNumber (c .before .before .before .before .before .before .before .before .before .number .given .1)) (sym (c .before .before .before .before .before .before .before .take2 .ensures .0) ∙ ap toldNumber (c .before .before .before .before .before .number2 .given .1)) (number-cut _ _ 24 (c .before .before .before .take3 .result) (c .before .before .match3 .keys2) (c .before .before .before .take3 .ensures .0) (c .lack-of3 .ensures)))
 
 returns-4 : tie.Need-returns-4
 returns-4 c =
-    sym (row-cut4 _ _ (sym (c .before .before .before .before .before .before .before .before .before .before .before .before .before .before .before .take .ensures .0) ∙ ap toldNumber (c .before .before .before .before .before .before .before .before .before .before .before .before .before .number .given .1)) (sym (c .before .before .before .before .before .before .before .before .before .before .before .take2 .ensures .0) ∙ ap toldNumber (c .before .before .before .before .before .before .before .before .before .number2 .given .1)) (sym (c .before .before .before .before .before .before .before .take3 .ensures .0) ∙ ap toldNumber (c .before .before .before .before .before .number3 .given .1)) (phase-cut _ _ (c .before .before .before .take-phase .result) (c .before .before .match4 .keys2) (c .before .before .before .take-phase .ensures) (c .place-of-phase .ensures)))
+    sym (row-cut4 _ _ (sym (c .before .before .before .before .before .before .before .before .before .before .before .before .before .before .before .take .ensures .0) ∙ ap toldNumber (c .before .before .before .before .before .before .before .before .before .before .before .before .before .number .given .1)) (sym (c .before .before .before .before .before .before .before .before .before .before .before .take2 .ensures .0) ∙ ap toldNumber (c .before .before .before .before .before .before .before .before .before .number2 .given .1)) (sym (c .before .before .before .before .before .before .before .take3 .ensures .0) ∙ ap toldNumber (c .before .before .before .before .before .number3 .given .1)) (phase-cut _ _ (c .before .before .before .take-phase .result) (c .before .before .match4 .keys2) (c .before .before .before .take-phase .ensures) (c .lack-of-phase .ensures)))
 
 returns-5 : tie.Need-returns-5
 returns-5 c =
-    sym (row-cut5 _ _ (sym (c .before .before .before .before .before .before .before .before .before .before .before .before .before .before .before .before .before .before .before .take .ensures .0) ∙ ap toldNumber (c .before .before .before .before .before .before .before .before .before .before .before .before .before .before .before .before .before .number .given .1)) (sym (c .before .before .before .before .before .before .before .before .before .before .before .before .before .before .before .take2 .ensures .0) ∙ ap toldNumber (c .before .before .before .before .before .before .before .before .before .before .before .before .before .number2 .given .1)) (sym (c .before .before .before .before .before .before .before .before .before .before .before .take3 .ensures .0) ∙ ap toldNumber (c .before .before .before .before .before .before .before .before .before .number3 .given .1)) (sym (c .before .before .before .before .before .before .before .take-phase .ensures) ∙ ap toldPhase (c .before .before .before .before .before .measured .given .1)) (number-cut _ _ 7 (c .before .before .before .take4 .result) (c .before .before .match5 .keys2) (c .before .before .before .take4 .ensures .0) (c .place-of4 .ensures)))
+    sym (row-cut5 _ _ (sym (c .before .before .before .before .before .before .before .before .before .before .before .before .before .before .before .before .before .before .before .take .ensures .0) ∙ ap toldNumber (c .before .before .before .before .before .before .before .before .before .before .before .before .before .before .before .before .before .number .given .1)) (sym (c .before .before .before .before .before .before .before .before .before .before .before .before .before .before .before .take2 .ensures .0) ∙ ap toldNumber (c .before .before .before .before .before .before .before .before .before .before .before .before .before .number2 .given .1)) (sym (c .before .before .before .before .before .before .before .before .before .before .before .take3 .ensures .0) ∙ ap toldNumber (c .before .before .before .before .before .before .before .before .before .number3 .given .1)) (sym (c .before .before .before .before .before .before .before .take-phase .ensures) ∙ ap toldPhase (c .before .before .before .before .before .measured .given .1)) (number-cut _ _ 7 (c .before .before .before .take4 .result) (c .before .before .match5 .keys2) (c .before .before .before .take4 .ensures .0) (c .lack-of4 .ensures)))
 
 cast-t24 : tie.Need-cast-t24
 cast-t24 c = omega (arith, taken _ _ 6 (sym (c .before .before .before .before .before .before .before .before .before .before .before .before .before .before .before .before .before .before .before .take .ensures .0) ∙ ap toldNumber (c .before .before .before .before .before .before .before .before .before .before .before .before .before .before .before .before .before .number .given .1)) .0)

@@ -9,11 +9,6 @@ use Rattle.observations.proofs.TakeLaws.{no-size, no-width}
 use Rattle.observations.proofs.read.take.Statement.{statement}
 use Rattle.observations.proofs.read.take.Tie as tie
 
-cast-t9 : tie.Need-cast-t9
-cast-t9 c =
-    let e = ap toldUnsigned (sym (c .before .v .given .1)) ∙ c .before .before .before .read-unsigned .ensures in
-    omega (arith, value-tells _ _ _ e .2, pow-mono {i = c .before .before .before .before .before .args .width} {j = 32} (c .before .before .before .before .before .pre .2))
-
 returns : tie.Need-returns
 returns c =
     let e = ap toldUnsigned (sym (c .before .v .given .1)) ∙ c .before .before .before .read-unsigned .ensures in
@@ -38,7 +33,9 @@ take-spec =
     (tie.spec
     (λ c κs. search needs)
     (λ c. search needs)
-    cast-t9
+    (λ c.
+    let e = ap toldUnsigned (sym (c .before .v .given .1)) ∙ c .before .before .before .read-unsigned .ensures in
+    omega (arith, value-tells _ _ _ e .2, pow-mono {i = c .before .before .before .before .before .args .width} {j = 32} (c .before .before .before .before .before .pre .2)))
     (λ c. search needs)
     (λ c. search needs)
     (λ c. search needs)

@@ -8,9 +8,6 @@ use Rattle.observations.proofs.TakeLaws.{no-size, no-width, phase-narro
 use Rattle.observations.proofs.read.take_phase.Statement.{statement}
 use Rattle.observations.proofs.read.take_phase.Tie as tie
 
-cast-t8 : tie.Need-cast-t8
-cast-t8 c = phase-narrow _ _ (sym (c .before .before .before .read-twos .ensures) ∙ ap toldSigned (c .before .z .given .1))
-
 returns : tie.Need-returns
 returns c = phase-read _ _ (sym (c .before .before .before .read-twos .ensures) ∙ ap toldSigned (c .before .z .given .1))
 
@@ -31,7 +28,7 @@ take-phase-spec =
     (tie.spec
     (λ c κs. search needs)
     (λ c. search needs)
-    cast-t8
+    (λ c. phase-narrow _ _ (sym (c .before .before .before .read-twos .ensures) ∙ ap toldSigned (c .before .z .given .1)))
     (λ c. search needs)
     (λ c. search needs)
     (λ c. search needs)

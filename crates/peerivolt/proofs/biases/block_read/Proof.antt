@@ -14,10 +14,10 @@ returns-2 : tie.Need-returns-2
 returns-2 c = c .bare .ensures ∙ tells countedValues toldRead (c .before .enum-told .given .1)
 
 returns-3 : tie.Need-returns-3
-returns-3 c = c .with-one .ensures ∙ tells countedValues toldRead (c .before .before .answer2 .given .1)
+returns-3 c = c .with-two2 .ensures ∙ tells countedValues toldRead (c .before .before .answer2 .given .1)
 
 returns-4 : tie.Need-returns-4
-returns-4 c = c .with-one2 .ensures ∙ tells countedValues toldRead (c .before .before .answer3 .given .1)
+returns-4 c = c .with-one .ensures ∙ tells countedValues toldRead (c .before .before .answer3 .given .1)
 
 pub block-read-spec : {M : Type 1} → statement M
 block-read-spec =

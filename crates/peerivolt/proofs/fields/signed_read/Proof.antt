@@ -27,7 +27,7 @@ returns-3 : tie.Need-returns-3
 returns-3 c = c .bare2 .ensures ∙ tells signedValues toldSigned (c .before .enum-told2 .given .1)
 
 returns-4 : tie.Need-returns-4
-returns-4 c = c .with-one2 .ensures ∙ tells signedValues toldSigned (c .before .before .read2 .given .1)
+returns-4 c = c .with-two .ensures ∙ tells signedValues toldSigned (c .before .before .read2 .given .1)
 
 pub signed-read-spec : {M : Type 1} → statement M
 signed-read-spec =

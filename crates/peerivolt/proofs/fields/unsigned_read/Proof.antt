@@ -17,7 +17,7 @@ returns-3 : tie.Need-returns-3
 returns-3 c = c .bare2 .ensures ∙ tells readingValues toldUnsigned (c .before .enum-told2 .given .1)
 
 returns-4 : tie.Need-returns-4
-returns-4 c = c .with-one2 .ensures ∙ tells readingValues toldUnsigned (c .before .before .read2 .given .1)
+returns-4 c = c .with-two .ensures ∙ tells readingValues toldUnsigned (c .before .before .read2 .given .1)
 
 pub unsigned-read-spec : {M : Type 1} → statement M
 unsigned-read-spec =

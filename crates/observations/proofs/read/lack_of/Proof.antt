@@ -1,0 +1,12 @@
+-- `observations::read::lack_of` meets its contract. Each arm is its case. Assumes nothing.
+use borrow.Author.Needs.{needs}
+use mathlib.Core.Path.{sym, ap}
+use Rattle.observations.specs.Steps.{lackOf}
+use Rattle.observations.proofs.read.lack_of.Statement.{statement}
+use Rattle.observations.proofs.read.lack_of.Tie as tie
+
+returns : tie.Need-returns
+returns c = ap lackOf (sym (c .enum-told .given .1))
+
+pub lack-of-spec : {M : Type 1} → statement M
+lack-of-spec = tie.close (tie.spec (λ c. search needs) (λ c. search needs) returns (λ c. search needs))
