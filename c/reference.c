@@ -284,6 +284,120 @@ uint32_t ref_frame_write(const uint8_t *data, size_t data_len, uint8_t *out, siz
     return accept_one(extra, data_len + PV_FRAME_MIN);
 }
 
+/* ---- What was sent against what was received. ---- */
+
+uint32_t ref_differing(const uint8_t *sent, size_t sent_len, const uint8_t *received, size_t received_len,
+                       uint64_t *extra, size_t extra_len)
+{
+    if (extra_len != PV_EXTRA_SIZE)
+        return PV_SIZE;
+    if (sent_len != received_len)
+        return refuse(extra, PV_SIZE, 0);
+    size_t first = 0, behind = 0;
+    for (size_t i = 0; i < received_len; i++) {
+        if (sent[i] == received[i])
+            continue;
+        if (behind == 0)
+            first = i;
+        behind = i + 1;
+    }
+    return accept_two(extra, first, behind - first);
+}
+
+/* ---- Settings blocks. ---- */
+
+static int bad_entry(unsigned edition, unsigned number, unsigned priority)
+{
+    return number > 4095 || (edition == 2 && priority > 7);
+}
+
+/* The number and the priority of entry k of a block. */
+static unsigned number_at(const uint8_t *block, size_t k)
+{
+    size_t at = 4 + k * (block[2] == 1 ? 2 : 3);
+    return (unsigned)block[at] << 8 | block[at + 1];
+}
+
+static unsigned priority_at(const uint8_t *block, size_t k)
+{
+    return block[2] == 1 ? 0 : block[4 + k * 3 + 2];
+}
+
+/* Whether the bytes behind the entries of a block are zeros. */
+static int is_filled(const uint8_t *block)
+{
+    for (size_t i = 4 + block[3] * (block[2] == 1 ? 2u : 3u); i < 509; i++)
+        if (block[i] != 0)
+            return 0;
+    return 1;
+}
+
+static uint32_t judge_settings(const uint8_t *block, size_t block_len, uint32_t reader, uint32_t index, uint64_t *extra)
+{
+    if (block_len != PV_SETTINGS_SIZE)
+        return refuse(extra, PV_SIZE, 0);
+    uint32_t sent = (uint32_t)get_field(block, 509 * 8, 24), computed = ref_crc24q(block, 509);
+    if (sent != computed) {
+        refuse(extra, PV_BAD_CHECK, sent);
+        extra[1] = computed;
+        return PV_BAD_CHECK;
+    }
+    if (reader < 1 || reader > 2 || block[2] < 1 || block[2] > reader)
+        return refuse(extra, PV_KIND, 0);
+    if (get_field(block, 0, 16) != index || block[3] > PV_SETTINGS_MAX)
+        return refuse(extra, PV_RANGE, 0);
+    for (size_t k = 0; k < block[3]; k++)
+        if (bad_entry(block[2], number_at(block, k), priority_at(block, k)))
+            return refuse(extra, PV_RANGE, k);
+    return is_filled(block) ? accept_two(extra, block[3], block[2]) : refuse(extra, PV_RANGE, 0);
+}
+
+uint32_t ref_settings_read(const uint8_t *block, size_t block_len, uint32_t reader_edition, uint32_t index,
+                           uint16_t *numbers, size_t numbers_len, uint8_t *priorities, size_t priorities_len,
+                           uint64_t *extra, size_t extra_len)
+{
+    if (extra_len != PV_EXTRA_SIZE || numbers_len != PV_SETTINGS_MAX || priorities_len != PV_SETTINGS_MAX)
+        return PV_SIZE;
+    uint32_t refusal = judge_settings(block, block_len, reader_edition, index, extra);
+    for (size_t k = 0; refusal == PV_ACCEPTED && k < block[3]; k++) {
+        numbers[k] = (uint16_t)number_at(block, k);
+        priorities[k] = (uint8_t)priority_at(block, k);
+    }
+    return refusal;
+}
+
+uint32_t ref_settings_write(uint32_t edition, uint32_t index, const uint16_t *numbers, size_t numbers_len,
+                            const uint8_t *priorities, size_t priorities_len, uint8_t *out, size_t out_len,
+                            uint64_t *extra, size_t extra_len)
+{
+    if (extra_len != PV_EXTRA_SIZE)
+        return PV_SIZE;
+    if (edition != 1 && edition != 2)
+        return refuse(extra, PV_KIND, 0);
+    if (numbers_len != priorities_len || numbers_len > PV_SETTINGS_MAX)
+        return refuse(extra, PV_SIZE, 0);
+    if (index > 65535)
+        return refuse(extra, PV_RANGE, 0);
+    for (size_t k = 0; k < numbers_len; k++)
+        if (bad_entry(edition, numbers[k], priorities[k]))
+            return refuse(extra, PV_RANGE, k);
+    if (out_len < PV_SETTINGS_SIZE)
+        return refuse(extra, PV_ROOM, PV_SETTINGS_SIZE);
+    size_t at = 4;
+    memset(out, 0, PV_SETTINGS_SIZE);
+    put_field(out, 0, 16, index);
+    out[2] = (uint8_t)edition;
+    out[3] = (uint8_t)numbers_len;
+    for (size_t k = 0; k < numbers_len; k++) {
+        put_field(out, at * 8, 16, numbers[k]);
+        if (edition == 2)
+            out[at + 2] = priorities[k];
+        at += edition == 1 ? 2 : 3;
+    }
+    put_field(out, 509 * 8, 24, ref_crc24q(out, 509));
+    return accept_one(extra, PV_SETTINGS_SIZE);
+}
+
 /* ---- Scanning. ---- */
 
 enum ref_fate ref_scan(const uint8_t *stream, size_t stream_len, size_t place, size_t *frame_len)

@@ -27,6 +27,16 @@ uint32_t ref_frame_check(const uint8_t *bytes, size_t bytes_len, uint64_t *extra
 uint32_t ref_frame_write(const uint8_t *data, size_t data_len, uint8_t *out, size_t out_len,
                          uint64_t *extra, size_t extra_len);
 
+uint32_t ref_differing(const uint8_t *sent, size_t sent_len, const uint8_t *received, size_t received_len,
+                       uint64_t *extra, size_t extra_len);
+
+uint32_t ref_settings_read(const uint8_t *block, size_t block_len, uint32_t reader_edition, uint32_t index,
+                           uint16_t *numbers, size_t numbers_len, uint8_t *priorities, size_t priorities_len,
+                           uint64_t *extra, size_t extra_len);
+uint32_t ref_settings_write(uint32_t edition, uint32_t index, const uint16_t *numbers, size_t numbers_len,
+                            const uint8_t *priorities, size_t priorities_len, uint8_t *out, size_t out_len,
+                            uint64_t *extra, size_t extra_len);
+
 uint32_t ref_feed(uint8_t *held, size_t held_len, size_t held_count, const uint8_t *piece, size_t piece_len,
                   uint8_t *out, size_t out_len, uint64_t *extra, size_t extra_len);
 

@@ -33,6 +33,8 @@ static const char usage[] =
     "  -L, --out-listen [HOST:]PORT  write to the first connection to PORT, not to standard output\n"
     "  -C, --out-connect HOST:PORT   write to HOST:PORT, not to standard output\n"
     "  -m, --message N[,N..]         pass only messages with these numbers (0 to 4095); may be repeated\n"
+    "  -s, --settings FILE           pass only messages whose numbers FILE holds, a settings block\n"
+    "  -S, --save-settings           write the numbers of --message to FILE first, and use those\n"
     "  -q, --quiet                   print no counts at the end\n"
     "  -h, --help                    print this and exit\n"
     "\n"
@@ -40,7 +42,8 @@ static const char usage[] =
     "An IPv6 address is written [ADDRESS]:PORT.\n"
     "\n"
     "At the end of the stream, and on SIGINT or SIGTERM, which stop the relay, counts go to standard error;\n"
-    "on SIGUSR1 too, and the relay goes on.\n"
+    "on SIGUSR1 too, and the relay goes on. On SIGHUP it reads FILE again. Where FILE cannot be read or its block\n"
+    "is refused, the list of numbers stays as it was, and that is said.\n"
     "Exit status: 0 at the end of the stream or stopped by a signal; 1 if reading, writing or a connection\n"
     "failed, or if it was stopped while frames waited to be written; 2 on wrong usage.\n";
 
@@ -50,6 +53,8 @@ struct options {
     const char *listen, *connect, *out_listen, *out_connect;
     bool only_some;
     bool passes[MESSAGE_NUMBERS];
+    const char *settings;
+    bool save_settings;
     bool quiet;
 };
 
@@ -113,16 +118,19 @@ static int read_options(int argc, char **argv, struct options *options)
         { "listen", required_argument, NULL, 'l' },     { "connect", required_argument, NULL, 'c' },
         { "out-listen", required_argument, NULL, 'L' }, { "out-connect", required_argument, NULL, 'C' },
         { "message", required_argument, NULL, 'm' },    { "quiet", no_argument, NULL, 'q' },
+        { "settings", required_argument, NULL, 's' },   { "save-settings", no_argument, NULL, 'S' },
         { "help", no_argument, NULL, 'h' },             { NULL, 0, NULL, 0 },
     };
     int option;
-    while ((option = getopt_long(argc, argv, "l:c:L:C:m:qh", names, NULL)) != -1) {
+    while ((option = getopt_long(argc, argv, "l:c:L:C:m:s:Sqh", names, NULL)) != -1) {
         switch (option) {
         case 'l': options->listen = optarg; break;
         case 'c': options->connect = optarg; break;
         case 'L': options->out_listen = optarg; break;
         case 'C': options->out_connect = optarg; break;
         case 'q': options->quiet = true; break;
+        case 's': options->settings = optarg; break;
+        case 'S': options->save_settings = true; break;
         case 'h': return fputs(usage, stdout) < 0 ? -1 : 1;
         case 'm':
             if (add_messages(options, optarg) != 0)
@@ -133,11 +141,92 @@ static int read_options(int argc, char **argv, struct options *options)
     }
     if (optind < argc)
         return wrong_usage("unexpected argument: ", argv[optind]);
+    if (options->save_settings && options->settings == NULL)
+        return wrong_usage("--save-settings needs --settings", "");
     if ((options->listen && options->connect) || (options->out_listen && options->out_connect))
         return wrong_usage("listen and connect exclude each other", "");
     if (!is_address(options->listen, default_host) || !is_address(options->out_listen, default_host) ||
         !is_address(options->connect, NULL) || !is_address(options->out_connect, NULL))
         return wrong_usage("an address is HOST:PORT", "");
+    return 0;
+}
+
+/* ---- Settings: the list of passed numbers as block 0 of a file. ---- */
+
+#define SETTINGS_INDEX 0
+
+static void refused_settings(const char *path, uint32_t refusal)
+{
+    fprintf(stderr, "relay: %s: refused with %s; the list of numbers stays\n", path, pv_refusal_name(refusal));
+}
+
+/* Takes the list over from the file. Where that fails, says so and leaves the list as it is. */
+static void load_settings(struct options *options)
+{
+    uint8_t block[PV_SETTINGS_SIZE + 1], priorities[PV_SETTINGS_MAX];
+    uint16_t numbers[PV_SETTINGS_MAX];
+    uint64_t extra[PV_EXTRA_SIZE];
+    FILE *file = fopen(options->settings, "rb");
+    if (file == NULL) {
+        fprintf(stderr, "relay: %s: %s; the list of numbers stays\n", options->settings, strerror(errno));
+        return;
+    }
+    size_t n = fread(block, 1, sizeof block, file);
+    fclose(file);
+    uint32_t refusal = pv_settings_read(block, n, 2, SETTINGS_INDEX, numbers, PV_SETTINGS_MAX, priorities,
+                                        PV_SETTINGS_MAX, extra, PV_EXTRA_SIZE);
+    if (refusal != PV_ACCEPTED) {
+        refused_settings(options->settings, refusal);
+        return;
+    }
+    memset(options->passes, 0, sizeof options->passes);
+    for (size_t k = 0; k < extra[PV_AT_SETTINGS_COUNT]; k++)
+        options->passes[numbers[k]] = true;
+    options->only_some = true;
+}
+
+/* Writes all of a block to a new file and waits until it is on the disk. */
+static int write_block(const char *path, const uint8_t *block)
+{
+    int fd = open(path, O_WRONLY | O_CREAT | O_TRUNC | O_CLOEXEC, 0666);
+    if (fd < 0)
+        return -1;
+    size_t done = 0;
+    while (done < PV_SETTINGS_SIZE) {
+        ssize_t n = write(fd, block + done, PV_SETTINGS_SIZE - done);
+        if (n < 0 && errno == EINTR)
+            continue;
+        if (n <= 0)
+            break;
+        done += (size_t)n;
+    }
+    int synced = done == PV_SETTINGS_SIZE ? fsync(fd) : -1;
+    return close(fd) == 0 ? synced : -1;
+}
+
+/* Saves the list: written beside the file and then renamed, so that a cut at any moment leaves the old file or the new. */
+static int save_settings(const struct options *options)
+{
+    uint8_t block[PV_SETTINGS_SIZE], priorities[MESSAGE_NUMBERS] = { 0 };
+    uint16_t numbers[MESSAGE_NUMBERS];
+    uint64_t extra[PV_EXTRA_SIZE];
+    char beside[4096];
+    size_t count = 0;
+    for (unsigned number = 0; number < MESSAGE_NUMBERS; number++)
+        if (options->passes[number])
+            numbers[count++] = (uint16_t)number;
+    uint32_t refusal = pv_settings_write(1, SETTINGS_INDEX, numbers, count, priorities, count, block, sizeof block, extra,
+                                         PV_EXTRA_SIZE);
+    if (refusal != PV_ACCEPTED) {
+        fprintf(stderr, "relay: the list of %zu numbers is refused with %s\n", count, pv_refusal_name(refusal));
+        return -1;
+    }
+    int length = snprintf(beside, sizeof beside, "%s.new", options->settings);
+    if (length < 0 || (size_t)length >= sizeof beside || write_block(beside, block) != 0 ||
+        rename(beside, options->settings) != 0) {
+        fprintf(stderr, "relay: %s: %s\n", options->settings, strerror(errno));
+        return -1;
+    }
     return 0;
 }
 
@@ -189,7 +278,7 @@ static volatile sig_atomic_t asked_to_stop;
 static void on_signal(int number)
 {
     int before = errno;
-    if (number != SIGUSR1)
+    if (number != SIGUSR1 && number != SIGHUP)
         asked_to_stop = 1;
     unsigned char byte = (unsigned char)number;
     ssize_t ignored = write(signal_pipe[1], &byte, 1);
@@ -214,20 +303,26 @@ static int catch_signals(void)
         return -1;
     action.sa_handler = on_signal;
     if (sigaction(SIGINT, &action, NULL) != 0 || sigaction(SIGTERM, &action, NULL) != 0 ||
-        sigaction(SIGUSR1, &action, NULL) != 0)
+        sigaction(SIGUSR1, &action, NULL) != 0 || sigaction(SIGHUP, &action, NULL) != 0)
         return -1;
     /* A closed peer is to be an error of write, not the end of the process. */
     action.sa_handler = SIG_IGN;
     return sigaction(SIGPIPE, &action, NULL);
 }
 
-/* Prints counts for each SIGUSR1 that came; gives true if a signal to stop came. */
+/* What the relay runs with. */
+static struct options *in_use;
+
+/* Prints counts for each SIGUSR1 that came, reads the settings for each SIGHUP; gives true if a signal to stop came. */
 static bool told_to_stop(void)
 {
     unsigned char number;
-    while (read(signal_pipe[0], &number, 1) == 1)
+    while (read(signal_pipe[0], &number, 1) == 1) {
         if (number == SIGUSR1)
             print_counts();
+        if (number == SIGHUP && in_use->settings != NULL)
+            load_settings(in_use);
+    }
     return asked_to_stop;
 }
 
@@ -523,6 +618,7 @@ int main(int argc, char **argv)
 {
     static struct options options;
     static struct relay relay = { .options = &options, .in = STDIN_FILENO, .out = STDOUT_FILENO };
+    in_use = &options;
     int given = read_options(argc, argv, &options);
     if (given != 0)
         return given > 0 ? EXIT_DONE : EXIT_USAGE;
@@ -530,6 +626,10 @@ int main(int argc, char **argv)
         failed("starting");
         return EXIT_FAILED;
     }
+    if (options.save_settings && save_settings(&options) != 0)
+        return EXIT_FAILED;
+    if (options.settings != NULL && !options.save_settings)
+        load_settings(&options);
     enum outcome outcome = open_ends(&relay);
     if (outcome == READY)
         outcome = relay_stream(&relay);

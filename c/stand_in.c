@@ -58,6 +58,28 @@ uint32_t pv_field_write_signmag(uint8_t *data, size_t data_len, size_t start, si
     return ref_field_write_signmag(data, data_len, start, width, value, extra, extra_len);
 }
 
+uint32_t pv_differing(const uint8_t *sent, size_t sent_len, const uint8_t *received, size_t received_len,
+                      uint64_t *extra, size_t extra_len)
+{
+    return ref_differing(sent, sent_len, received, received_len, extra, extra_len);
+}
+
+uint32_t pv_settings_read(const uint8_t *block, size_t block_len, uint32_t reader_edition, uint32_t index,
+                          uint16_t *numbers, size_t numbers_len, uint8_t *priorities, size_t priorities_len,
+                          uint64_t *extra, size_t extra_len)
+{
+    return ref_settings_read(block, block_len, reader_edition, index, numbers, numbers_len, priorities, priorities_len,
+                             extra, extra_len);
+}
+
+uint32_t pv_settings_write(uint32_t edition, uint32_t index, const uint16_t *numbers, size_t numbers_len,
+                           const uint8_t *priorities, size_t priorities_len, uint8_t *out, size_t out_len,
+                           uint64_t *extra, size_t extra_len)
+{
+    return ref_settings_write(edition, index, numbers, numbers_len, priorities, priorities_len, out, out_len, extra,
+                              extra_len);
+}
+
 uint32_t pv_frame_check(const uint8_t *bytes, size_t bytes_len, uint64_t *extra, size_t extra_len)
 {
     return EITHER(frame_check)(bytes, bytes_len, extra, extra_len);

@@ -117,6 +117,11 @@ static inline uint64_t *area_u64(const struct area *area)
     return (uint64_t *)(void *)area->bytes;
 }
 
+static inline uint16_t *area_u16(const struct area *area)
+{
+    return (uint16_t *)(void *)area->bytes;
+}
+
 static inline int16_t *area_i16(const struct area *area)
 {
     return (int16_t *)(void *)area->bytes;

@@ -905,7 +905,193 @@ static void signal_tables(void)
     order_of_signals();
 }
 
+/* ---- Comparing. ---- */
+
+static void comparing(void)
+{
+    LEND(data, 0xD3, 0, 0, 0x47, 0xEA, 0x4B);
+    LEND(piece, 0xD3, 0, 0, 0x47, 0xEA, 0x4B);
+    ACCEPTED(pv_differing(DATA, piece.bytes, piece.size, EXTRA), 0, 0);
+    piece.bytes[1] = 4;
+    ACCEPTED(pv_differing(DATA, piece.bytes, piece.size, EXTRA), 1, 1);
+    piece.bytes[4] ^= 0x80;
+    ACCEPTED(pv_differing(DATA, piece.bytes, piece.size, EXTRA), 1, 4);
+    piece.bytes[0] = 0;
+    piece.bytes[5] = 0;
+    ACCEPTED(pv_differing(DATA, piece.bytes, piece.size, EXTRA), 0, 6);
+    REFUSED(pv_differing(DATA, piece.bytes, 5, EXTRA), PV_SIZE, 0);
+    REFUSED(pv_differing(data.bytes, 5, piece.bytes, piece.size, EXTRA), PV_SIZE, 0);
+    REFUSED(pv_differing(NULL, 0, piece.bytes, 1, EXTRA), PV_SIZE, 0);
+    ACCEPTED(pv_differing(NULL, 0, NULL, 0, EXTRA), 0, 0);
+    CHECK(area_same(&data));
+    CHECK(area_same(&piece));
+
+    area_lend(&data, 65536, 0x5A);
+    area_lend(&piece, 65536, 0x5A);
+    piece.bytes[0] ^= 1;
+    piece.bytes[65535] ^= 1;
+    ACCEPTED(pv_differing(DATA, piece.bytes, piece.size, EXTRA), 0, 65536);
+}
+
+/* The smallest damage that the checksum lets through: both strings end in their checksum and differ within 25 bits. */
+static void damage_that_slips_through(void)
+{
+    const uint8_t zeros[] = { 0, 0, 0, 0 }, polynomial[] = { 0x01, 0x86, 0x4C, 0xFB };
+    CHECK_EQ(pv_crc24q(zeros, 1), 0);
+    CHECK_EQ(pv_crc24q(polynomial, 1), 0x864CFB);
+    ready();
+    ACCEPTED(pv_differing(zeros, 4, polynomial, 4, EXTRA), 0, 4);
+}
+
+/* ---- Settings blocks: numbers in `biases`, priorities in `signals`. ---- */
+
+#define SETTINGS area_u16(&biases), biases.size / 2, signals.bytes, signals.size
+
+static void lend_settings(size_t n)
+{
+    area_lend(&biases, 2 * n, 0x11);
+    area_lend(&signals, n, 0x22);
+}
+
+static void set_entry(size_t k, unsigned number, unsigned priority)
+{
+    area_u16(&biases)[k] = (uint16_t)number;
+    signals.bytes[k] = (uint8_t)priority;
+}
+
+/* Puts the checksum of the first 509 bytes behind them. */
+static void seal(void)
+{
+    uint32_t sum = pv_crc24q(data.bytes, 509);
+    data.bytes[509] = (uint8_t)(sum >> 16);
+    data.bytes[510] = (uint8_t)(sum >> 8);
+    data.bytes[511] = (uint8_t)sum;
+}
+
+static void write_block(uint32_t edition, uint32_t index)
+{
+    area_lend(&data, 514, 0x77);
+    ACCEPTED(pv_settings_write(edition, index, SETTINGS, DATA, EXTRA), 512);
+    CHECK(data.bytes[512] == 0x77 && data.bytes[513] == 0x77);
+}
+
+static void settings_layout(void)
+{
+    lend_settings(2);
+    set_entry(0, 1005, 3);
+    set_entry(1, 4095, 7);
+    write_block(1, 0x0102);
+    HAS(data, 1, 2, 1, 2, 0x03, 0xED, 0x0F, 0xFF, 0, 0);
+    CHECK_EQ(pv_crc24q(data.bytes, 512), 0);
+    lend_settings(64);
+    ACCEPTED(pv_settings_read(data.bytes, 512, 1, 0x0102, SETTINGS, EXTRA), 2, 1);
+    CHECK(area_u16(&biases)[0] == 1005 && area_u16(&biases)[1] == 4095 && area_u16(&biases)[2] == 0x1111);
+    CHECK(signals.bytes[0] == 0 && signals.bytes[1] == 0 && signals.bytes[2] == 0x22);
+
+    lend_settings(2);
+    set_entry(0, 1005, 3);
+    set_entry(1, 4095, 7);
+    write_block(2, 0xFFFF);
+    HAS(data, 0xFF, 0xFF, 2, 2, 0x03, 0xED, 3, 0x0F, 0xFF, 7, 0, 0);
+    lend_settings(64);
+    REFUSED(pv_settings_read(data.bytes, 512, 1, 0xFFFF, SETTINGS, EXTRA), PV_KIND, 0);
+    ACCEPTED(pv_settings_read(data.bytes, 512, 2, 0xFFFF, SETTINGS, EXTRA), 2, 2);
+    CHECK(area_u16(&biases)[1] == 4095 && signals.bytes[0] == 3 && signals.bytes[1] == 7 && signals.bytes[2] == 0x22);
+}
+
+static void settings_write_refusals(void)
+{
+    lend_settings(65);
+    area_lend(&data, 511, 0);
+    set_entry(3, 4096, 0);
+    REFUSED(pv_settings_write(0, 65536, SETTINGS, DATA, EXTRA), PV_KIND, 0);
+    REFUSED(pv_settings_write(3, 65536, SETTINGS, DATA, EXTRA), PV_KIND, 0);
+    REFUSED(pv_settings_write(1, 65536, SETTINGS, DATA, EXTRA), PV_SIZE, 0);
+    area_lend(&signals, 64, 0);
+    REFUSED(pv_settings_write(1, 65536, SETTINGS, DATA, EXTRA), PV_SIZE, 0);
+    lend_settings(64);
+    for (size_t k = 0; k < 64; k++)
+        set_entry(k, 4095, 200);
+    set_entry(9, 4096, 0);
+    REFUSED(pv_settings_write(1, 65536, SETTINGS, DATA, EXTRA), PV_RANGE, 0);
+    REFUSED(pv_settings_write(1, 65535, SETTINGS, DATA, EXTRA), PV_RANGE, 9);
+    REFUSED(pv_settings_write(2, 65535, SETTINGS, DATA, EXTRA), PV_RANGE, 0);
+    set_entry(9, 4095, 0);
+    REFUSED(pv_settings_write(1, 65535, SETTINGS, DATA, EXTRA), PV_ROOM, 512);
+    area_lend(&data, 512, 0);
+    ACCEPTED(pv_settings_write(1, 65535, SETTINGS, DATA, EXTRA), 512);
+    lend_settings(0);
+    ACCEPTED(pv_settings_write(2, 0, NULL, 0, NULL, 0, DATA, EXTRA), 512);
+}
+
+static void settings_read_refusals(void)
+{
+    lend_settings(3);
+    for (size_t k = 0; k < 3; k++)
+        set_entry(k, 1000 + (unsigned)k, (unsigned)k);
+    write_block(2, 7);
+    area_lend(&piece, 512, 0);
+    memcpy(piece.bytes, data.bytes, 512);
+    area_lend(&data, 512, 0);
+    memcpy(data.bytes, piece.bytes, 512);
+    lend_settings(64);
+    REFUSED(pv_settings_read(data.bytes, 511, 1, 8, SETTINGS, EXTRA), PV_SIZE, 0);
+    data.bytes[5] ^= 1;
+    uint32_t sent = (uint32_t)data.bytes[509] << 16 | (uint32_t)data.bytes[510] << 8 | data.bytes[511];
+    ready();
+    CHECK_EQ(pv_settings_read(DATA, 1, 8, SETTINGS, EXTRA), PV_BAD_CHECK);
+    extra_is((const uint64_t[]){ sent, pv_crc24q(data.bytes, 509) }, 2, "both sums", __LINE__);
+    nothing_written("a bad check", __LINE__);
+    data.bytes[5] ^= 1;
+    REFUSED(pv_settings_read(DATA, 1, 8, SETTINGS, EXTRA), PV_KIND, 0);
+    REFUSED(pv_settings_read(DATA, 3, 7, SETTINGS, EXTRA), PV_KIND, 0);
+    REFUSED(pv_settings_read(DATA, 2, 8, SETTINGS, EXTRA), PV_RANGE, 0);
+    REFUSED(pv_settings_read(DATA, 2, 65536 + 7, SETTINGS, EXTRA), PV_RANGE, 0);
+    data.bytes[508] = 1;
+    data.bytes[4 + 3 + 2] = 8;
+    seal();
+    REFUSED(pv_settings_read(DATA, 2, 7, SETTINGS, EXTRA), PV_RANGE, 1);
+    data.bytes[4 + 3 + 2] = 7;
+    data.bytes[4 + 6] = 0x10;
+    seal();
+    REFUSED(pv_settings_read(DATA, 2, 7, SETTINGS, EXTRA), PV_RANGE, 2);
+    data.bytes[4 + 6] = 0x0F;
+    seal();
+    REFUSED(pv_settings_read(DATA, 2, 7, SETTINGS, EXTRA), PV_RANGE, 0);
+    data.bytes[508] = 0;
+    data.bytes[3] = 65;
+    seal();
+    REFUSED(pv_settings_read(DATA, 2, 7, SETTINGS, EXTRA), PV_RANGE, 0);
+    area_lend(&data, 512, 0);
+    REFUSED(pv_settings_read(DATA, 1, 0, SETTINGS, EXTRA), PV_KIND, 0);
+    REFUSED(pv_settings_read(DATA, 2, 0, SETTINGS, EXTRA), PV_KIND, 0);
+}
+
+/* Lists of another length than 64: nothing is written, extra included. */
+static void settings_fixed_lists(void)
+{
+    area_lend(&data, 512, 0);
+    for (size_t n = 63; n <= 65; n++) {
+        lend_settings(64);
+        area_lend(n == 64 ? &signals : &biases, n == 64 ? 63 : 2 * n, 0);
+        ready();
+        CHECK_EQ(pv_settings_read(DATA, 2, 0, SETTINGS, EXTRA), PV_SIZE);
+        nothing_written("lists of another length", __LINE__);
+        CHECK(area_same(&extra));
+    }
+}
+
+static void settings(void)
+{
+    settings_layout();
+    settings_write_refusals();
+    settings_read_refusals();
+    settings_fixed_lists();
+}
+
 /* ---- The extra area of another size. ---- */
+
+#define CALLS 18
 
 static uint32_t call_number(unsigned call, uint64_t *numbers, size_t n)
 {
@@ -925,7 +1111,9 @@ static uint32_t call_number(unsigned call, uint64_t *numbers, size_t n)
     case 12: return pv_1230_write(DATA, 0, LISTS_1230, numbers, n);
     case 13: return pv_signal_of(0, 2, numbers, n);
     case 14: return pv_number_of(0, 1, 'C', numbers, n);
-    default: return pv_signal_order(0, 1, 'C', 1, 'P', numbers, n);
+    case 15: return pv_signal_order(0, 1, 'C', 1, 'P', numbers, n);
+    case 16: return pv_differing(DATA, DATA, numbers, n);
+    default: return pv_settings_write(1, 0, NULL, 0, NULL, 0, OUT, numbers, n);
     }
 }
 
@@ -939,7 +1127,7 @@ static void extra_of_another_size(void)
     LEND(piece, 0xD3, 0, 0, 0x47, 0xEA, 0x4B);
     lend_1059(1);
     signals.bytes[0] = 2;
-    for (unsigned call = 0; call < 16; call++) {
+    for (unsigned call = 0; call < CALLS; call++) {
         for (size_t i = 0; i < sizeof sizes / sizeof sizes[0]; i++) {
             ready();
             area_lend(&extra, sizes[i] * 8, 0xEE);
@@ -951,7 +1139,7 @@ static void extra_of_another_size(void)
         nothing_written("no extra", __LINE__);
     }
     /* The same calls with the right size write all of it. */
-    for (unsigned call = 0; call < 16; call++) {
+    for (unsigned call = 0; call < CALLS; call++) {
         ready();
         uint32_t got = call_number(call, EXTRA);
         CHECK(got == PV_ACCEPTED || got == PV_NO_PREAMBLE);
@@ -1012,6 +1200,9 @@ int main(void)
     write_1230_every_mask();
     metres();
     signal_tables();
+    comparing();
+    damage_that_slips_through();
+    settings();
     extra_of_another_size();
     refusal_names();
     version();

@@ -252,6 +252,78 @@ static void try_frame_write(void)
             ref_frame_write(THEIRS(data), THEIRS(out), THEIR_EXTRA));
 }
 
+/* ---- Comparing. ---- */
+
+static void try_differing(void)
+{
+    lend_random(&data, random_length());
+    lend(&out, data.ours.size);
+    fill(&out, data.ours.bytes);
+    for (size_t changes = below(4); changes > 0 && out.ours.size > 0; changes--)
+        set_byte(&out, below(out.ours.size), random64() & 0xFF);
+    if (one_in(10))
+        lend_random(&out, random_length());
+    lend_extra();
+    compare("pv_differing", pv_differing(OURS(data), OURS(out), OUR_EXTRA),
+            ref_differing(THEIRS(data), THEIRS(out), THEIR_EXTRA));
+}
+
+/* ---- Settings blocks: numbers in `biases`, priorities in `signals`. ---- */
+
+#define OUR_SETTINGS area_u16(&biases.ours), biases.ours.size / 2, OURS(signals)
+#define THEIR_SETTINGS area_u16(&biases.theirs), biases.theirs.size / 2, THEIRS(signals)
+
+static void random_settings(size_t n)
+{
+    lend_random(&biases, 2 * n);
+    lend_random(&signals, n);
+    for (size_t k = 0; k < n; k++) {
+        if (one_in(60))
+            continue;
+        set_byte(&biases, 2 * k + 1, random64() & 0x0F);
+        set_byte(&signals, k, random64() & 7);
+    }
+}
+
+static void try_settings_write(void)
+{
+    random_settings(one_in(20) ? PICK(63, 64, 65, 200) : below(65));
+    if (one_in(20))
+        lend_random(&signals, below(66));
+    lend_random(&out, one_in(10) ? below(512) : 512 + below(4));
+    lend_extra();
+    uint32_t edition = (uint32_t)(one_in(15) ? random64() : 1 + below(2));
+    uint32_t index = (uint32_t)(one_in(15) ? PICK(65535, 65536, 0xFFFFFFFF) : below(65536));
+    compare("pv_settings_write", pv_settings_write(edition, index, OUR_SETTINGS, OURS(out), OUR_EXTRA),
+            ref_settings_write(edition, index, THEIR_SETTINGS, THEIRS(out), THEIR_EXTRA));
+}
+
+/* A block that was written, in some rounds changed and sealed again. */
+static void try_settings_read(void)
+{
+    uint64_t numbers[PV_EXTRA_SIZE];
+    uint32_t edition = (uint32_t)(1 + below(2)), index = (uint32_t)below(300);
+    random_settings(below(65));
+    lend(&data, PV_SETTINGS_SIZE);
+    uint8_t block[PV_SETTINGS_SIZE] = { 0 };
+    ref_settings_write(edition, index, THEIR_SETTINGS, block, sizeof block, numbers, PV_EXTRA_SIZE);
+    for (size_t changes = one_in(2) ? below(4) : 0; changes > 0; changes--)
+        block[one_in(2) ? below(8) : below(509)] = (uint8_t)random64();
+    uint32_t sum = ref_crc24q(block, 509) ^ (one_in(10) ? 1u << below(24) : 0);
+    block[509] = (uint8_t)(sum >> 16);
+    block[510] = (uint8_t)(sum >> 8);
+    block[511] = (uint8_t)sum;
+    fill(&data, block);
+    size_t n = one_in(30) ? below(80) : PV_SETTINGS_MAX;
+    lend_random(&biases, 2 * n);
+    lend_random(&signals, one_in(30) ? below(80) : n);
+    lend_extra();
+    uint32_t reader = (uint32_t)(one_in(15) ? random64() : 1 + below(2));
+    uint32_t expected = one_in(20) ? index + 1 : index;
+    compare("pv_settings_read", pv_settings_read(OURS(data), reader, expected, OUR_SETTINGS, OUR_EXTRA),
+            ref_settings_read(THEIRS(data), reader, expected, THEIR_SETTINGS, THEIR_EXTRA));
+}
+
 /* ---- Feeding. ---- */
 
 #define STREAM_MAX 12000
@@ -538,6 +610,7 @@ static void try_signals(void)
 
 static void (*const tries[])(void) = {
     try_crc, try_field_read, try_field_read, try_field_write, try_field_write, try_frame_check, try_frame_write,
+    try_differing, try_settings_read, try_settings_write,
     try_feed, try_1059_read, try_1059_write, try_1230_read, try_1230_write, try_signals,
 };
 

@@ -264,11 +264,56 @@ options() {
     check "status without standard input" $? 1
 }
 
+# The list of numbers from a file: saved beside and renamed, taken over, and kept where the block is refused.
+settings_file() {
+    file=$work/settings
+    relay -q -m 1004 <"$1" >"$work/by_option"
+    relay -q -s "$file" -S -m 1004 <"$1" >"$work/saved"
+    check "status of saving" $? 0
+    check_same "saved settings" "$work/saved" "$work/by_option"
+    check "bytes of the settings" "$(wc -c <"$file")" 512
+    check "nothing is left beside" "$(ls "$work" | grep -c '^settings')" 1
+    relay -q -s "$file" <"$1" >"$work/taken" 2>"$work/said"
+    check_same "settings taken over" "$work/taken" "$work/by_option"
+    check "nothing to say" "$(wc -c <"$work/said")" 0
+    relay -q -s "$file" -m 1006 <"$1" >"$work/taken"
+    check_same "settings before options" "$work/taken" "$work/by_option"
+
+    # A block that is cut short, damaged or not there: the list of the options stays.
+    relay -q -m 1006 <"$1" >"$work/by_option"
+    head -c 511 "$file" >"$work/short"
+    relay -q -s "$work/short" -m 1006 <"$1" >"$work/taken" 2>"$work/said"
+    check_same "a block cut short" "$work/taken" "$work/by_option"
+    check "cut short, said" "$(grep -c 'refused with Size' "$work/said")" 1
+    { head -c 5 "$file"; printf 'x'; tail -c 506 "$file"; } >"$work/damaged"
+    relay -q -s "$work/damaged" -m 1006 <"$1" >"$work/taken" 2>"$work/said"
+    check_same "a damaged block" "$work/taken" "$work/by_option"
+    check "damaged, said" "$(grep -c 'refused with BadCheck' "$work/said")" 1
+    head -c 512 /dev/zero >"$work/zeros"
+    relay -q -s "$work/zeros" -m 1006 <"$1" >"$work/taken" 2>"$work/said"
+    check_same "a block of zeros" "$work/taken" "$work/by_option"
+    check "zeros, said" "$(grep -c 'refused with Kind' "$work/said")" 1
+    relay -q -s "$work/absent" -m 1006 <"$1" >"$work/taken" 2>/dev/null
+    check_same "no file" "$work/taken" "$work/by_option"
+
+    # A save that fails leaves the old file: 65 numbers, and no place to write to.
+    cp "$file" "$work/old"
+    relay -q -s "$file" -S -m "$(seq -s , 1 65)" <"$1" >/dev/null 2>&1
+    check "65 numbers" $? 1
+    check_same "the old settings stay" "$file" "$work/old"
+    relay -q -s "$work/no/such/place" -S -m 1 <"$1" >/dev/null 2>&1
+    check "no such place" $? 1
+    relay -q -S -m 1 <"$1" >/dev/null 2>&1
+    check "nowhere to save to" $? 2
+    rm -f "$file" "$work/short" "$work/damaged" "$work/zeros" "$work/old"
+}
+
 options
 for recording in "$@"; do
     "$build/expected" <"$recording" >"$work/frames" 2>"$work/counts"
     through_a_pipe "$recording" 1
     only_some_messages "$recording"
+    settings_file "$recording"
     through_a_pipe "$recording" 2000
     through_tcp "$recording" 40
 done

@@ -94,6 +94,8 @@ static inline const char *pv_refusal_name(uint32_t number)
 #define PV_1059_READ_MAX 422 /* Records that always suffice for reading a 1059 block. */
 #define PV_1059_WRITE_MAX 1953 /* Records in the longest list that a 1059 block is written from. */
 #define PV_1230_MAX 4        /* Records in the longest 1230 block, in reading and in writing. */
+#define PV_SETTINGS_SIZE 512 /* Bytes in a settings block, exactly. */
+#define PV_SETTINGS_MAX 64   /* Numbers in a settings block at most, and places in the lists that it is read into, exactly. */
 
 /* ---- Where the block starts in the data of a whole message: the bits of the header before it. ---- */
 
@@ -130,6 +132,13 @@ static inline const char *pv_refusal_name(uint32_t number)
 #define PV_AT_NUMBER_FOUND 0  /* Signal to number: 1 if the table has the signal, else 0. */
 #define PV_AT_NUMBER 1        /* Signal to number: the number. */
 #define PV_AT_ORDER 0         /* Order of signals: -1, 0 or 1. */
+
+#define PV_AT_DIFFERING_START 0 /* Comparing: the first byte that differs, or 0. */
+#define PV_AT_DIFFERING_COUNT 1 /* Comparing: how many bytes from there to the last that differs, or 0. */
+
+#define PV_AT_SETTINGS_COUNT 0   /* Settings read: how many numbers. */
+#define PV_AT_SETTINGS_EDITION 1 /* Settings read: the edition of the block. */
+#define PV_AT_SETTINGS_BYTES 0   /* Settings written: the bytes of the block, 512. */
 
 /* What feeding answers at PV_AT_FED_IS_FRAME. */
 #define PV_MORE 0  /* The whole piece was taken, and there is no frame yet. */
@@ -200,6 +209,18 @@ uint32_t pv_frame_check(const uint8_t *bytes, size_t bytes_len, uint64_t *extra,
  */
 uint32_t pv_frame_write(const uint8_t *data, size_t data_len, uint8_t *out, size_t out_len,
                         uint64_t *extra, size_t extra_len);
+
+/* ---- What was sent against what was received. ---- */
+
+/*
+ * Compares a received frame with the sent one, byte by byte; any two areas of one length will do, whatever they hold.
+ *
+ * Refuses: PV_SIZE (the lengths are unequal).
+ * Answers: [PV_AT_DIFFERING_START] the first byte that differs; [PV_AT_DIFFERING_COUNT] how many bytes from there to the
+ * last that differs, both included. Both are 0 if the areas are equal.
+ */
+uint32_t pv_differing(const uint8_t *sent, size_t sent_len, const uint8_t *received, size_t received_len,
+                      uint64_t *extra, size_t extra_len);
 
 /* ---- Scanning a stream that comes in pieces. ---- */
 
@@ -305,6 +326,42 @@ uint32_t pv_1230_write(uint8_t *data, size_t data_len, size_t start, const uint8
 
 /* A raw 1230 bias in metres: the number as a float times 0.02f, rounded once. Its unit is not that of 1059. */
 float pv_1230_metres(int16_t raw);
+
+/* ---- Settings blocks. ---- */
+
+/*
+ * A settings block keeps up to 64 message numbers, each 0 to 4,095, in 512 bytes with a checksum of their own, so that
+ * they outlive a software update: bytes 0 and 1 the index of the block, high byte first; byte 2 the edition; byte 3 the
+ * count; the numbers, two bytes each, high byte first; zeros; the CRC-24Q of bytes 0 to 508 in the last three. Edition 2
+ * gives each number a third byte, a priority 0 to 7.
+ *
+ * Reads the block that the caller expects to have this index. A reader of edition 1 reads blocks of edition 1; one of
+ * edition 2 reads both, with priorities 0 for edition 1. The numbers are written to the first places of the lists; later
+ * places stay. Both lists have exactly 64 places, which is tested after `extra` and before all else: another length is
+ * PV_SIZE, and then nothing at all is written.
+ *
+ * Refuses, in this order: PV_SIZE (the block has not 512 bytes), PV_BAD_CHECK (carries both checksums), PV_KIND (an
+ * edition that the reader does not read, and any reader but 1 and 2; so also a block of zeros), PV_RANGE (another index,
+ * or a count above 64; carries 0), PV_RANGE (carries the index of the first bad number or priority), PV_RANGE (a byte
+ * behind the numbers is not 0; carries 0).
+ * Answers: [PV_AT_SETTINGS_COUNT] how many numbers; [PV_AT_SETTINGS_EDITION] the block's edition.
+ */
+uint32_t pv_settings_read(const uint8_t *block, size_t block_len, uint32_t reader_edition, uint32_t index,
+                          uint16_t *numbers, size_t numbers_len, uint8_t *priorities, size_t priorities_len,
+                          uint64_t *extra, size_t extra_len);
+
+/*
+ * Writes the block of this index and edition to the start of the output; later output bytes stay. Edition 1 does not
+ * look at the priorities, but their list is as long as that of the numbers.
+ *
+ * Refuses, in this order: PV_KIND (an edition other than 1 and 2), PV_SIZE (lists of unequal length or above 64),
+ * PV_RANGE (an index above 65,535; carries 0), PV_RANGE (carries the index of the first bad number or priority),
+ * PV_ROOM (output below 512 bytes; carries 512).
+ * Answers: [PV_AT_SETTINGS_BYTES] 512.
+ */
+uint32_t pv_settings_write(uint32_t edition, uint32_t index, const uint16_t *numbers, size_t numbers_len,
+                           const uint8_t *priorities, size_t priorities_len, uint8_t *out, size_t out_len,
+                           uint64_t *extra, size_t extra_len);
 
 /* ---- Signal tables. ---- */
 

@@ -54,7 +54,7 @@ found values e h q o = read values e h q (ap Accepted o)
 
 -- ---- a call of the scanner
 
-either : {A : Type 0} (b : Bool) {x y : A} → x ≡ y → x ≡ cond b y x
+pub either : {A : Type 0} (b : Bool) {x y : A} → x ≡ y → x ≡ cond b y x
 either true e = e
 either false e = refl
 

@@ -1,3 +1,4 @@
 pub mod AnswerLaws
+pub mod SettingsLaws
 pub mod OnlyLaws
 pub mod Examples

@@ -16,6 +16,11 @@ use Rattle.messages.specs.Write1230.{write1230}
 use Rattle.messages.specs.Metres.{metres1059, metres1230}
 use Rattle.messages.specs.Signals.{sig, tableOf, signalOf, numberOf}
 use Rattle.messages.specs.SignalOrder.{order}
+use Rattle.damage.specs.Compare.{compare}
+use Rattle.settings.specs.Read.{readSettings}
+use Rattle.settings.specs.Write.{writeSettings}
+use Rattle.peerivolt.specs.Damage.{runValues}
+use Rattle.peerivolt.specs.Settings.{readsSettings}
 use Rattle.peerivolt.specs.Extra.{Returned, returned, answered, reads}
 use Rattle.peerivolt.specs.Fields.{readingValues, signedValues, endValues}
 use Rattle.peerivolt.specs.Frames.{wholeValues}
@@ -66,6 +71,15 @@ only-pv-frame-check s e = only-returned (reads wholeValues (check s) e)
 
 pub only-pv-frame-write : (d out e : List ℕ) → OneAnswer (answered endValues e out (writeFrame d out))
 only-pv-frame-write d out e = only-returned (answered endValues e out (writeFrame d out))
+
+pub only-pv-differing : (s t e : List ℕ) → OneAnswer (reads runValues (compare s t) e)
+only-pv-differing s t e = only-returned (reads runValues (compare s t) e)
+
+pub only-pv-settings-read : (s : List ℕ) (r x : ℕ) (ns ps e : List ℕ) → OneAnswer (readsSettings ns ps (readSettings s r x ns ps) e)
+only-pv-settings-read s r x ns ps e = only-returned (readsSettings ns ps (readSettings s r x ns ps) e)
+
+pub only-pv-settings-write : (d x : ℕ) (ns ps out e : List ℕ) → OneAnswer (answered endValues e out (writeSettings d x ns ps out))
+only-pv-settings-write d x ns ps out e = only-returned (answered endValues e out (writeSettings d x ns ps out))
 
 pub only-pv-feed : (held : List ℕ) (count : ℕ) (piece out e : List ℕ) → OneAnswer (feeds held out (feedOf rtcm held count piece out) e)
 only-pv-feed held count piece out e = only-returned (feeds held out (feedOf rtcm held count piece out) e)

@@ -2,6 +2,8 @@ pub mod Extra
 pub mod Answers
 pub mod Fields
 pub mod Frames
+pub mod Damage
+pub mod Settings
 pub mod Scanner
 pub mod Signals
 pub mod Biases

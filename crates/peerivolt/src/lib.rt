@@ -1,6 +1,8 @@
 // The C surface: every function is called with numbers and areas, returns 0 or the number of a refusal, and spreads the
 // rest over the extra area of eight numbers. `include/peerivolt.h` says the same to a C programmer.
 pub mod biases;
+pub mod blocks;
+pub mod comparing;
 mod extra;
 pub mod fields;
 pub mod one_frame;

@@ -1,0 +1,9 @@
+pub mod ListedLaws
+pub mod LayoutLaws
+pub mod SearchLaws
+pub mod ReadLaws
+pub mod WriteLaws
+pub mod WrittenLaws
+pub mod RoundTrip
+pub mod ToldLaws
+pub mod Examples

@@ -1,0 +1,4 @@
+pub mod Block
+pub mod Read
+pub mod Write
+pub mod Answers
