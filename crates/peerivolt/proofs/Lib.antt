@@ -1,4 +1,6 @@
 pub mod AnswerLaws
 pub mod SettingsLaws
 pub mod OnlyLaws
+pub mod KeepLaws
+pub mod FeedLaws
 pub mod Examples

@@ -5,5 +5,6 @@ pub mod Frames
 pub mod Damage
 pub mod Settings
 pub mod Scanner
+pub mod Feeding
 pub mod Signals
 pub mod Biases

@@ -1,0 +1,69 @@
+-- A call of the C surface that returns another number than 0 leaves every lent area but the extra one as it came. Assumes nothing.
+use mathlib.Core.Path.{_≡_, refl, ap, _∙_}
+use mathlib.Core.Bool.{Bool, true, false}
+use mathlib.Core.List.{List}
+use Prim.Native.Nat.{ℕ}
+use lib.IntN.{ℤ}
+use lib.ListN.{length}
+use lib.Dec.{eqb}
+use Rattle.bits.specs.Told.{Told, Accepted, Refused}
+use Rattle.bits.specs.Outcome.{Outcome}
+use Rattle.bits.specs.Field.{writeUnsigned, writeTwos, writeSignmag}
+use Rattle.bits.specs.Signed.{fitsUnsigned, fitsTwos, fitsSignmag, twosBits, signmagBits}
+use Rattle.bits.proofs.OutcomeLaws.{Keeps}
+use Rattle.bits.proofs.WriteLaws as fields
+use Rattle.frames.specs.Frame.{writeFrame}
+use Rattle.frames.specs.Rtcm.{rtcm}
+use Rattle.frames.specs.Call.{feedOf}
+use Rattle.frames.proofs.WriteLaws as frame
+use Rattle.frames.proofs.CallLaws.{feed-keeps}
+use Rattle.messages.specs.Write1059.{write1059}
+use Rattle.messages.specs.Write1230.{write1230}
+use Rattle.messages.proofs.KeepLaws.{keeps-1059, keeps-1230}
+use Rattle.peerivolt.specs.Extra.{inNumbers, Returned, returned, ifSized, answered}
+use Rattle.peerivolt.specs.Fields.{endValues}
+use Rattle.peerivolt.specs.Scanner.{fedValues, feeds}
+
+-- where d returns another number than 0, the areas are as they were before
+pub record RefusedKeeps {Areas : Type 0} (before : Areas) (d : Returned Areas) : Type 0 where
+  pub kept : {r : ℕ} {e : List ℕ} {after : Areas} → returned r e after ≡ d → (r ≡ 0 → ⊥) → after ≡ before
+
+module _ {Areas : Type 0} (before : Areas) where
+  -- an area of another size than it must have
+  sized-keeps : (sized : Bool) (e : List ℕ) (d : Returned Areas) → RefusedKeeps before d → RefusedKeeps before (ifSized sized e before d)
+  sized-keeps true e d k = k
+  sized-keeps false e d k = record { kept = λ q n. ap (λ (x : Returned Areas). x .areas) q }
+
+  -- an outcome that is told in C
+  pub answered-keeps : {A : Type 0} (values : A → List ℕ) (e : List ℕ) (w : Outcome A Areas) → Keeps before w → RefusedKeeps before (answered values e before w)
+  unfolding answered
+  answered-keeps {A} values e w k = sized-keeps (eqb (length e) 8) e _ (record { kept = λ q n. ap (λ (x : Returned Areas). x .areas) q ∙ go (w .answer) refl (ap (λ (x : Returned Areas). x .answer .number) q) n })
+    where
+      go : (t : Told A) → w .answer ≡ t → {r : ℕ} → r ≡ inNumbers values t .number → (r ≡ 0 → ⊥) → w .areas ≡ before
+      go (Accepted a) i q n = absurd (n q)
+      go (Refused m carried) i q n = k .kept i
+
+-- ---- each export that is lent more than the extra area: s the bytes, p the start, w the width, e the extra area
+
+pub keeps-pv-field-write-unsigned : (s : List ℕ) (p w v : ℕ) (e : List ℕ) → RefusedKeeps s (answered endValues e s (writeUnsigned s p w v))
+keeps-pv-field-write-unsigned s p w v e = answered-keeps s endValues e (writeUnsigned s p w v) (fields.write-keeps (fitsUnsigned w v) v s p w)
+
+pub keeps-pv-field-write-twos : (s : List ℕ) (p w : ℕ) (z : ℤ) (e : List ℕ) → RefusedKeeps s (answered endValues e s (writeTwos s p w z))
+keeps-pv-field-write-twos s p w z e = answered-keeps s endValues e (writeTwos s p w z) (fields.write-keeps (fitsTwos w z) (twosBits w z) s p w)
+
+pub keeps-pv-field-write-signmag : (s : List ℕ) (p w : ℕ) (z : ℤ) (e : List ℕ) → RefusedKeeps s (answered endValues e s (writeSignmag s p w z))
+keeps-pv-field-write-signmag s p w z e = answered-keeps s endValues e (writeSignmag s p w z) (fields.write-keeps (fitsSignmag w z) (signmagBits w z) s p w)
+
+pub keeps-pv-frame-write : (d out e : List ℕ) → RefusedKeeps out (answered endValues e out (writeFrame d out))
+keeps-pv-frame-write d out e = answered-keeps out endValues e (writeFrame d out) (frame.write-keeps d out)
+
+pub keeps-pv-feed : (held : List ℕ) (count : ℕ) (piece out e : List ℕ) → RefusedKeeps (held, out) (feeds held out (feedOf rtcm held count piece out) e)
+unfolding feeds
+keeps-pv-feed held count piece out e =
+    sized-keeps (held, out) (eqb (length held) 1029) e _ (answered-keeps (held, out) fedValues e (feedOf rtcm held count piece out) (feed-keeps rtcm held count piece out))
+
+pub keeps-pv-1059-write : (s : List ℕ) (p : ℕ) (sats gs : List ℕ) (zs : List ℤ) (e : List ℕ) → RefusedKeeps s (answered endValues e s (write1059 1 s p sats gs zs))
+keeps-pv-1059-write s p sats gs zs e = answered-keeps s endValues e (write1059 1 s p sats gs zs) (record { kept = λ q. keeps-1059 s p 1 sats gs zs .refused q })
+
+pub keeps-pv-1230-write : (s : List ℕ) (p : ℕ) (gs : List ℕ) (zs : List ℤ) (e : List ℕ) → RefusedKeeps s (answered endValues e s (write1230 s p gs zs))
+keeps-pv-1230-write s p gs zs e = answered-keeps s endValues e (write1230 s p gs zs) (record { kept = λ q. keeps-1230 s p gs zs .refused q })
