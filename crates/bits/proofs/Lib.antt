@@ -12,6 +12,8 @@ pub mod WriteLaws
 pub mod XorLaws
 pub mod CrcLaws
 pub mod ThreeLaws
+pub mod EveryPlace
+pub mod TableLaws
 pub mod ToldLaws
 pub mod OutcomeLaws
 pub mod OnlyLaws

@@ -1,56 +1,22 @@
--- The checksum so far, continued over what is left, is the whole. Assumes nothing.
-use mathlib.Core.Path.{_≡_, refl, sym, _∙_}
-use Prim.Native.Nat.{_≤_, _-_}
+-- The table's rule, by one computed test; where a byte follows, only 24 bits of the sum count. Assumes nothing.
+use mathlib.Core.Path.{refl, sym, _∙_}
 use native.Mathlib.Omega.{arith}
-use lib.ListN.{length, drop}
 use borrow.Author.Needs.{needs}
-use Rattle.bits.specs.Crc.{crcFrom}
-use Rattle.bits.proofs.CrcLaws.{from-more, from-end}
+use Rattle.bits.specs.Crc.{crcBits, crcBit}
+use Rattle.bits.proofs.CrcLaws.{from-end}
+use Rattle.bits.proofs.TableLaws.{rule, sum-mod}
 use Rattle.bits.proofs.crc.crc24q_from.Statement.{statement}
 use Rattle.bits.proofs.crc.crc24q_from.Tie as tie
 
-abbrev Inv-loop : tie.InvT-loop
-Inv-loop sum bytes c₀ i₀ c i = (i ≤ length bytes) × (crcFrom c (drop i bytes) ≡ crcFrom sum bytes)
+returns : tie.Need-returns
+returns c = sym (from-end (c .before .before .args .bytes .now) 0 (c .before .before .args .sum) (omega arith))
 
-abbrev μ-loop : tie.MeasureT-loop
-μ-loop sum bytes c₀ i₀ c i = length bytes - i
+by-table-requires : tie.Need-by-table-requires
+unfolding crcBits crcBit
+by-table-requires c κs = (rule _ tt refl, omega arith)
 
-loop-holds : tie.Need-loop-holds Inv-loop μ-loop
-loop-holds c = (search needs, refl)
-
-shared-slice-read-crc-byte : tie.Need-shared-slice-read-crc-byte Inv-loop μ-loop
-shared-slice-read-crc-byte c = search needs
-
-crc-byte-requires : tie.Need-crc-byte-requires Inv-loop μ-loop
-crc-byte-requires c κs = search needs
-
-add-i : tie.Need-add-i Inv-loop μ-loop
-add-i c = search needs
-
-loop-less : tie.Need-loop-less Inv-loop μ-loop
-loop-less c = search needs
-
-loop-again : tie.Need-loop-again Inv-loop μ-loop
-loop-again c =
-    let l = c .before .before .before .loop in
-    let s = c .before .before .before .before .before .args .bytes .now in
-    (omega arith, rw (c .crc-byte .ensures) (sym (from-more s (l .i) (l .c) (omega arith)) ∙ l .inv .1))
-
-returns : tie.Need-returns Inv-loop μ-loop
-returns c =
-    let l = c .before .loop in
-    sym (from-end (c .before .before .before .args .bytes .now) (l .i) (l .c) (omega arith)) ∙ l .inv .1
+returns-2 : tie.Need-returns-2
+returns-2 c = let a = c .before .before .before .before .args in c .by-table .ensures ∙ sum-mod (a .bytes .now) (a .sum) (omega arith)
 
 pub crc24q-from-spec : {M : Type 1} → statement M
-crc24q-from-spec =
-    tie.close
-    (tie.spec
-    Inv-loop
-    μ-loop
-    loop-holds
-    shared-slice-read-crc-byte
-    crc-byte-requires
-    add-i
-    loop-less
-    loop-again
-    returns)
+crc24q-from-spec = tie.close (tie.spec returns by-table-requires returns-2)
