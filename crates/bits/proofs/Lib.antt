@@ -14,6 +14,11 @@ pub mod CrcLaws
 pub mod ThreeLaws
 pub mod EveryPlace
 pub mod TableLaws
+pub mod LinearLaws
+pub mod RemLaws
+pub mod WordLaws
+pub mod FoldLaws
+pub mod StepLaws
 pub mod ToldLaws
 pub mod OutcomeLaws
 pub mod OnlyLaws

@@ -5,24 +5,25 @@ use mathlib.Core.List.{List, [], _∷_}
 use Prim.Native.Nat.{ℕ, zero, suc, _+_, _*_, _/_, _%_, _^_, _<_}
 use native.Mathlib.Nat.{mod-lt, mod-mod, mul-assoc, mul-one, pow-suc}
 use native.Mathlib.Omega.{arith}
-use lib.Dec.{T, eqb, eqb→eq}
+use lib.Dec.{eqb, eqb→eq}
 use lib.ListN.{length, getD}
 use lib.Pow.{pow-pos, field, split}
-use lib.Bits.{bitXor, xor-shifted, xor-mod, xor-comm}
+use lib.Bits.{bitXor, xor-shifted, xor-mod, xor-lt, xor-comm}
+use Rattle.crctable.specs.Table.{table}
 use Rattle.bits.specs.Crc.{crcBit, crcBits, crcByte, crcFrom}
-use Rattle.bits.specs.Steps.{OfBytes}
 use Rattle.bits.proofs.CrcLaws.{bits-linear}
 use Rattle.bits.proofs.XorLaws.{xor-assoc, xor-shl}
-use Rattle.bits.proofs.EveryPlace.{every, at}
+use Rattle.bits.proofs.EveryPlace.{at}
 
 -- ---- the rule
 
-abbrev pub right : ℕ → ℕ → Bool
+right : ℕ → ℕ → Bool
 right i x = eqb x (crcBits 8 (i * 2 ^ 16))
 
--- a table that passes the test at its 256 places has the rule
-pub rule : (t : List ℕ) → T (every right 0 t) → length t ≡ 256 → OfBytes t
-rule t h l = record { number = λ i b. eqb→eq (getD t i 0) (crcBits 8 (i * 2 ^ 16)) (at right t h i (rw l b)) }
+-- number i of the table is what eight bit steps make of the byte i in the top bits
+rule : (i : ℕ) → i < 256 → getD table i 0 ≡ crcBits 8 (i * 2 ^ 16)
+unfolding table right crcBits crcBit
+rule i h = eqb→eq (getD table i 0) (crcBits 8 (i * 2 ^ 16)) (at right table tt i h)
 
 -- ---- bit steps
 
@@ -50,7 +51,7 @@ bit-shift y h =
     rw (z, w)
 
 -- where no 1 falls out, the steps are a shift
-pub bits-shift : (w x : ℕ) → x * 2 ^ w < 2 ^ 24 → crcBits w x ≡ x * 2 ^ w
+bits-shift : (w x : ℕ) → x * 2 ^ w < 2 ^ 24 → crcBits w x ≡ x * 2 ^ w
 unfolding crcBits
 bits-shift zero x h = sym (mul-one x)
 bits-shift (suc w) x h =
@@ -69,12 +70,13 @@ parted c b =
     ∙ ap (λ (n : ℕ). bitXor n (c % 2 ^ 16)) (xor-comm (b * 2 ^ 16) (h * 2 ^ 16) ∙ sym (xor-shl h b 16))
 
 -- the table's number for the byte that falls out, and the rest moved up
-pub by-table : (t : List ℕ) → OfBytes t → (c b i : ℕ) → i ≡ bitXor (c / 2 ^ 16) b → i < 256 → bitXor (getD t i 0) (c % 2 ^ 16 * 256) ≡ crcByte c b
+pub by-table : (c b : ℕ) → c < 2 ^ 24 → b < 256 → bitXor (getD table (bitXor (c / 2 ^ 16) b) 0) (c % 2 ^ 16 * 256) ≡ crcByte c b
 unfolding crcByte
-by-table t r c b i e l =
-    ap₂ bitXor (r .number i l) (sym (bits-shift 8 (c % 2 ^ 16) (omega arith)))
+by-table c b l h =
+    let i = bitXor (c / 2 ^ 16) b in
+    ap₂ bitXor (rule i (xor-lt 8 (c / 2 ^ 16) b (omega arith) h)) (sym (bits-shift 8 (c % 2 ^ 16) (omega arith)))
     ∙ sym (bits-linear 8 (i * 2 ^ 16) (c % 2 ^ 16))
-    ∙ ap (crcBits 8) (ap (λ (n : ℕ). bitXor (n * 2 ^ 16) (c % 2 ^ 16)) e ∙ sym (parted c b))
+    ∙ ap (crcBits 8) (sym (parted c b))
 
 -- only 24 bits of a sum count, where a byte follows
 pub sum-mod : (s : List ℕ) (c : ℕ) → 0 < length s → crcFrom (c % 2 ^ 24) s ≡ crcFrom c s

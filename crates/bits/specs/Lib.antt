@@ -8,3 +8,4 @@ pub mod Answers
 pub mod Fields
 pub mod Crc
 pub mod Steps
+pub mod FoldSteps

@@ -1,12 +1,10 @@
 -- What private functions of the code compute. No promise to a caller rests on this file. Assumes nothing.
-use mathlib.Core.Path.{_≡_}
 use mathlib.Core.Bool.{cond}
 use mathlib.Core.List.{List}
-use Prim.Native.Nat.{ℕ, _+_, _*_, _/_, _%_, _^_, _<_}
-use lib.ListN.{length, getD}
+use Prim.Native.Nat.{ℕ, _+_, _*_, _/_, _%_, _^_}
+use lib.ListN.{length}
 use lib.Dec.{ltb, eqb}
 use Rattle.bits.specs.Told.{Accepted, room}
-use Rattle.bits.specs.Crc.{crcBits}
 use Rattle.bits.specs.Outcome.{Outcome, outcome, refusing}
 use Rattle.bits.specs.Field.{putField}
 use Rattle.bits.specs.declared.field.Ground.{Ground}
@@ -26,7 +24,3 @@ placed s p w v =
 -- the byte x with b in the m bits that have j bits below them
 unfoldable pub splice : ℕ → ℕ → ℕ → ℕ → ℕ
 splice x m j b = x / 2 ^ (m + j) * 2 ^ (m + j) + (b * 2 ^ j + x % 2 ^ j)
-
--- a table of 256 numbers: number i is what eight bit steps make of the byte i in the top bits
-pub record OfBytes (table : List ℕ) : Type 0 where
-  pub number : (i : ℕ) → i < 256 → getD table i 0 ≡ crcBits 8 (i * 2 ^ 16)

@@ -4,5 +4,6 @@
 // the table in `specs/Told.antt`, and a refused call writes nothing.
 pub mod crc;
 pub mod field;
+mod fold;
 mod raw;
 mod signed;

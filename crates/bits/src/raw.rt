@@ -73,7 +73,7 @@ fn spliced(x: u64, m: usize, j: usize, v: u64) -> u64
 }
 
 // Eight bytes from byte i on, highest first. In this form it is one load.
-fn eight_at(bytes: &[u8], i: usize) -> u64
+pub(crate) fn eight_at(bytes: &[u8], i: usize) -> u64
     requires { ⌜ i + 8 ≤ length (now bytes) ⌝ }
     ensures { λ r. ⌜ r ≡ field (now (bytes .entry)) (i * 8) 64 ⌝ }
 {

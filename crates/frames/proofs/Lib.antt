@@ -28,6 +28,7 @@ pub mod UbxTrip
 pub mod EitherLaws
 pub mod ModeLaws
 pub mod StartLaws
+pub mod AmongLaws
 pub mod SumsLaws
 pub mod UbxSeenLaws
 pub mod UbxExamples

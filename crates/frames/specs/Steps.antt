@@ -2,7 +2,7 @@
 use mathlib.Core.Path.{_≡_}
 use mathlib.Core.Bool.{Bool, true, false, cond, _||_}
 use mathlib.Core.List.{List, _++_}
-use Prim.Native.Nat.{ℕ, _+_, _-_, _≤_, _<_}
+use Prim.Native.Nat.{ℕ, zero, suc, _+_, _-_, _≤_, _<_}
 use lib.ListN.{length, getD, take, drop}
 use lib.Dec.{eqb}
 use Rattle.bits.specs.Told.{Accepted}
@@ -34,6 +34,11 @@ pub record Start (start : ℕ → Bool) (s : List ℕ) (i j : ℕ) : Type 0 wher
   pub within : j ≤ length s
   pub none : (k : ℕ) → k < j → i ≤ k → start (getD s k 0) ≡ false
   pub there : j < length s → start (getD s j 0) ≡ true
+
+-- whether x is among the bytes of s from place i up to place i + n
+unfoldable pub among : ℕ → ℕ → List ℕ → ℕ → Bool
+among x zero s i = eqb (getD s i 0) x
+among x (suc n) s i = among x n s i || eqb (getD s (i + suc n) 0) x
 
 -- a decision, and the n bytes that it was made by
 abbrev pub seenBy : {W K : Type 0} → Decision W K → ℕ → Seen

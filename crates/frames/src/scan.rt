@@ -14,7 +14,7 @@ ghost use Rattle.frames.specs.Rtcm.{rtcm};
 ghost use Rattle.frames.specs.Modes.{framingOf};
 ghost use Rattle.frames.specs.Walk.{nextFrom};
 ghost use Rattle.frames.specs.Answers.{toldNext};
-ghost use Rattle.frames.specs.Steps.{startsRtcm, startsEither, startsIn, Start, seen, sight};
+ghost use Rattle.frames.specs.Steps.{startsRtcm, startsEither, startsIn, Start, seen, sight, among};
 use crate::frame;
 use crate::ubx;
 use bits::crc;
@@ -106,8 +106,29 @@ fn next_in(part: &[u8], from: usize, mode: u32) -> usize
     next_either(part, from)
 }
 
-// The place of the first D3 of a part from a place on, or its end.
+// The place of the first D3 of a part from a place on, or its end. Past the first byte, which is one where frame follows
+// frame, it goes by sixteen bytes at a time.
 fn next_d3(part: &[u8], from: usize) -> usize
+    requires { ⌜ from ≤ length (now part) ⌝ }
+    ensures { λ r. ⌜ Start startsRtcm (now (part .entry)) from r ⌝ }
+{
+    let mut i = from;
+    if i < part.len() {
+        if part[i] == 0xD3 {
+            return i;
+        }
+    }
+    while 16 <= part.len() - i {
+        if has(part, i, 0xD3) {
+            return near_d3(part, i);
+        }
+        i += 16;
+    }
+    near_d3(part, i)
+}
+
+// The same, byte by byte.
+fn near_d3(part: &[u8], from: usize) -> usize
     requires { ⌜ from ≤ length (now part) ⌝ }
     ensures { λ r. ⌜ Start startsRtcm (now (part .entry)) from r ⌝ }
 {
@@ -127,6 +148,24 @@ fn next_either(part: &[u8], from: usize) -> usize
     ensures { λ r. ⌜ Start startsEither (now (part .entry)) from r ⌝ }
 {
     let mut i = from;
+    while 16 <= part.len() - i {
+        if has(part, i, 0xB5) {
+            return near_either(part, i);
+        }
+        if has(part, i, 0xD3) {
+            return near_either(part, i);
+        }
+        i += 16;
+    }
+    near_either(part, i)
+}
+
+// The same, byte by byte.
+fn near_either(part: &[u8], from: usize) -> usize
+    requires { ⌜ from ≤ length (now part) ⌝ }
+    ensures { λ r. ⌜ Start startsEither (now (part .entry)) from r ⌝ }
+{
+    let mut i = from;
     while i < part.len() {
         if part[i] == 0xB5 {
             return i;
@@ -137,6 +176,29 @@ fn next_either(part: &[u8], from: usize) -> usize
         i += 1;
     }
     i
+}
+
+// Whether one of the sixteen bytes from place i on is x. In this form all sixteen are compared at once.
+fn has(part: &[u8], i: usize, x: u8) -> bool
+    requires { ⌜ i + 16 ≤ length (now part) ⌝ }
+    ensures { λ r. ⌜ r ≡ among x 15 (now (part .entry)) i ⌝ }
+{
+    (part[i] == x)
+        | (part[i + 1] == x)
+        | (part[i + 2] == x)
+        | (part[i + 3] == x)
+        | (part[i + 4] == x)
+        | (part[i + 5] == x)
+        | (part[i + 6] == x)
+        | (part[i + 7] == x)
+        | (part[i + 8] == x)
+        | (part[i + 9] == x)
+        | (part[i + 10] == x)
+        | (part[i + 11] == x)
+        | (part[i + 12] == x)
+        | (part[i + 13] == x)
+        | (part[i + 14] == x)
+        | (part[i + 15] == x)
 }
 
 // What a check says of a start byte: incomplete; or not valid, or good, by so many bytes.

@@ -10,20 +10,20 @@ use Rattle.bits.proofs.crc.by_table.Statement.{statement}
 use Rattle.bits.proofs.crc.by_table.Tie as tie
 
 abbrev Inv-loop : tie.InvT-loop
-Inv-loop table sum bytes c₀ i₀ c i =
+Inv-loop sum bytes c₀ i₀ c i =
     (i ≤ length bytes) × (c < 2 ^ 24) × (crcFrom c (drop i bytes) ≡ crcFrom sum bytes)
 
 abbrev μ-loop : tie.MeasureT-loop
-μ-loop table sum bytes c₀ i₀ c i = length bytes - i
+μ-loop sum bytes c₀ i₀ c i = length bytes - i
 
 loop-holds : tie.Need-loop-holds Inv-loop μ-loop
-loop-holds c = (search needs, c .before .pre .1, refl)
+loop-holds c = (search needs, c .before .pre, refl)
 
 shared-slice-read-crc-byte : tie.Need-shared-slice-read-crc-byte Inv-loop μ-loop
 shared-slice-read-crc-byte c = search needs
 
 crc-byte-requires : tie.Need-crc-byte-requires Inv-loop μ-loop
-crc-byte-requires c κs = (c .before .before .before .before .pre .0, c .before .before .loop .inv .1)
+crc-byte-requires c κs = c .before .before .loop .inv .1
 
 add-i : tie.Need-add-i Inv-loop μ-loop
 add-i c = search needs

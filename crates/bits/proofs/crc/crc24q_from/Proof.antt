@@ -1,22 +1,71 @@
--- The table's rule, by one computed test; where a byte follows, only 24 bits of the sum count. Assumes nothing.
-use mathlib.Core.Path.{refl, sym, _∙_}
+-- At most seven bytes by the table, and the words behind them by folding. Assumes nothing.
+use mathlib.Core.Path.{sym, ap, _∙_}
+use Prim.Native.Nat.{ℕ, _*_, _%_, _^_}
 use native.Mathlib.Omega.{arith}
-use borrow.Author.Needs.{needs}
-use Rattle.bits.specs.Crc.{crcBits, crcBit}
+use lib.ListN.{length, drop}
+use lib.Bits.{bitXor}
+use Rattle.bits.specs.Crc.{crcFrom}
 use Rattle.bits.proofs.CrcLaws.{from-end}
-use Rattle.bits.proofs.TableLaws.{rule, sum-mod}
+use Rattle.bits.proofs.TableLaws.{sum-mod}
+use Rattle.bits.proofs.StepLaws.{begun, front-first, all-front}
+use borrow.Author.Needs.{needs}
 use Rattle.bits.proofs.crc.crc24q_from.Statement.{statement}
 use Rattle.bits.proofs.crc.crc24q_from.Tie as tie
 
 returns : tie.Need-returns
 returns c = sym (from-end (c .before .before .args .bytes .now) 0 (c .before .before .args .sum) (omega arith))
 
+sub-by-table : tie.Need-sub-by-table
+sub-by-table c = search needs
+
+part-by-table-start : tie.Need-part-by-table-start
+part-by-table-start c = search needs
+
+part-by-table-end : tie.Need-part-by-table-end
+part-by-table-end c = search needs
+
 by-table-requires : tie.Need-by-table-requires
-unfolding crcBits crcBit
-by-table-requires c κs = (rule _ tt refl, omega arith)
+by-table-requires c κs = search needs
 
 returns-2 : tie.Need-returns-2
-returns-2 c = let a = c .before .before .before .before .args in c .by-table .ensures ∙ sum-mod (a .bytes .now) (a .sum) (omega arith)
+returns-2 c =
+    let a = c .before .before .before .before .before .args in
+    let s = a .bytes .now in
+    c .before .by-table .ensures ∙ all-front s (a .sum % 2 ^ 24) (omega arith) ∙ sum-mod s (a .sum) (omega arith)
+
+eight-at-requires : tie.Need-eight-at-requires
+eight-at-requires c κs = search needs
+
+cast-words : tie.Need-cast-words
+cast-words c = search needs
+
+words-requires : tie.Need-words-requires
+words-requires c κs = search needs
+
+returns-3 : tie.Need-returns-3
+returns-3 c =
+    let g = c .before .before .before .before .before .before .before in
+    let s = g .args .bytes .now in
+    let f = c .before .before .before .by-table in
+    c .words .ensures
+    ∙ begun s (length s % 8) (f .result) _ (omega arith)
+    (λ k. c .before .before .before .before .before .before .shared-slice-known .given k .fits) (search needs)
+    (ap (bitXor (f .result * 2 ^ 40 % 2 ^ 64)) (c .before .eight-at .ensures))
+    ∙ ap (λ (z : ℕ). crcFrom z (drop (length s % 8) s)) (f .ensures)
+    ∙ front-first s (g .args .sum % 2 ^ 24)
+    ∙ sum-mod s (g .args .sum) (omega arith)
 
 pub crc24q-from-spec : {M : Type 1} → statement M
-crc24q-from-spec = tie.close (tie.spec returns by-table-requires returns-2)
+crc24q-from-spec =
+    tie.close
+    (tie.spec
+    returns
+    sub-by-table
+    part-by-table-start
+    part-by-table-end
+    by-table-requires
+    returns-2
+    eight-at-requires
+    cast-words
+    words-requires
+    returns-3)

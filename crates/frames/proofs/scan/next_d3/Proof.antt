@@ -1,13 +1,13 @@
--- The loop has passed no D3. Assumes nothing.
-use mathlib.Core.Path.{_≡_}
+-- The loop has passed no start byte. Assumes nothing.
+use mathlib.Core.Path.{_≡_, sym, _∙_}
 use mathlib.Core.Bool.{false}
 use Prim.Native.Nat.{ℕ, _-_, _≤_, _<_}
 use native.Mathlib.Omega.{arith}
 use lib.ListN.{length, getD}
-use borrow.Author.Count.{below-more}
-use borrow.Author.Tests.{eq-eqb, ne-eqb}
+use borrow.Author.Tests.{eq-eqb}
 use borrow.Author.Needs.{needs}
 use Rattle.frames.specs.Steps.{startsRtcm}
+use Rattle.frames.proofs.AmongLaws.{none-of, below-run, first-from}
 use Rattle.frames.proofs.scan.next_d3.Statement.{statement}
 use Rattle.frames.proofs.scan.next_d3.Tie as tie
 
@@ -17,17 +17,31 @@ Inv-loop part from i₀ i = (from ≤ i) × (i ≤ length part) × ((k : ℕ) �
 abbrev μ-loop : tie.MeasureT-loop
 μ-loop part from i₀ i = length part - i
 
-loop-holds : tie.Need-loop-holds Inv-loop μ-loop
-loop-holds c = (search needs, search needs, λ k a b. absurd (omega arith))
-
-shared-slice-read-if1 : tie.Need-shared-slice-read-if1 Inv-loop μ-loop
-shared-slice-read-if1 c = search needs
+shared-slice-read-if2 : tie.Need-shared-slice-read-if2 Inv-loop μ-loop
+shared-slice-read-if2 c = search needs
 
 returns : tie.Need-returns Inv-loop μ-loop
 returns c =
-    let l = c .before .before .before in
-    let v = l .loop .inv in
-    record { from = v .0; within = v .1; none = v .2; there = λ a. eq-eqb _ _ (c .if1 .taken) }
+    let h = c .before .before .before .before .pre in
+    record { from = omega arith; within = omega (arith, h); none = λ k a b. absurd (omega arith); there = λ a. eq-eqb _ _ (c .if2 .taken) }
+
+loop-holds : tie.Need-loop-holds Inv-loop μ-loop
+loop-holds c = (omega arith, c .before .before .pre, λ k a b. absurd (omega arith))
+
+sub-loop : tie.Need-sub-loop Inv-loop μ-loop
+sub-loop c = search needs
+
+has-requires : tie.Need-has-requires Inv-loop μ-loop
+has-requires c κs = search needs
+
+near-d3-requires : tie.Need-near-d3-requires Inv-loop μ-loop
+near-d3-requires c κs = search needs
+
+returns-2 : tie.Need-returns-2 Inv-loop μ-loop
+returns-2 c =
+    let a = c .before .before .before .before .before .before .before .args in
+    let l = c .before .before .before .before .loop in
+    first-from startsRtcm (a .part .now) (a .from) (l .i) (c .near-d3 .result) (l .inv .0) (l .inv .2) (c .near-d3 .ensures)
 
 add-i : tie.Need-add-i Inv-loop μ-loop
 add-i c = search needs
@@ -37,14 +51,18 @@ loop-less c = search needs
 
 loop-again : tie.Need-loop-again Inv-loop μ-loop
 loop-again c =
-    let l = c .before .before .before in
-    (search needs, search needs, below-more _ _ (l .loop .inv .2) (λ a. ne-eqb _ _ (c .if1 .left)))
+    let a = c .before .before .before .before .before .before .args in
+    let l = c .before .before .before .loop in
+    (omega arith, omega arith, below-run (λ k. a .from ≤ k → startsRtcm (getD (a .part .now) k 0) ≡ false) (l .i) 16 (l .inv .2) (λ k g h _. none-of 0xD3 (a .part .now) (l .i) (sym (c .before .has .ensures) ∙ c .if3 .left) k g h))
 
-returns-2 : tie.Need-returns-2 Inv-loop μ-loop
-returns-2 c =
-    let l = c .before in
-    let v = l .loop .inv in
-    record { from = v .0; within = v .1; none = v .2; there = λ a. absurd (omega arith) }
+near-d3-requires-2 : tie.Need-near-d3-requires-2 Inv-loop μ-loop
+near-d3-requires-2 c κs = search needs
+
+returns-3 : tie.Need-returns-3 Inv-loop μ-loop
+returns-3 c =
+    let a = c .before .before .before .before .before .args in
+    let l = c .before .before .loop in
+    first-from startsRtcm (a .part .now) (a .from) (l .i) (c .near-d32 .result) (l .inv .0) (l .inv .2) (c .near-d32 .ensures)
 
 pub next-d3-spec : {M : Type 1} → statement M
 next-d3-spec =
@@ -52,10 +70,15 @@ next-d3-spec =
     (tie.spec
     Inv-loop
     μ-loop
-    loop-holds
-    shared-slice-read-if1
+    shared-slice-read-if2
     returns
+    loop-holds
+    sub-loop
+    has-requires
+    near-d3-requires
+    returns-2
     add-i
     loop-less
     loop-again
-    returns-2)
+    near-d3-requires-2
+    returns-3)

@@ -1,13 +1,12 @@
--- The loop has passed neither D3 nor B5. Assumes nothing.
-use mathlib.Core.Path.{_≡_}
+-- The loop has passed no start byte. Assumes nothing.
+use mathlib.Core.Path.{_≡_, sym, _∙_}
 use mathlib.Core.Bool.{false}
 use Prim.Native.Nat.{ℕ, _-_, _≤_, _<_}
 use native.Mathlib.Omega.{arith}
 use lib.ListN.{length, getD}
-use borrow.Author.Count.{below-more}
 use borrow.Author.Needs.{needs}
 use Rattle.frames.specs.Steps.{startsEither}
-use Rattle.frames.proofs.StartLaws.{b5-starts, d3-starts, none-starts}
+use Rattle.frames.proofs.AmongLaws.{none-of, neither, below-run, first-from}
 use Rattle.frames.proofs.scan.next_either.Statement.{statement}
 use Rattle.frames.proofs.scan.next_either.Tie as tie
 
@@ -18,25 +17,34 @@ abbrev μ-loop : tie.MeasureT-loop
 μ-loop part from i₀ i = length part - i
 
 loop-holds : tie.Need-loop-holds Inv-loop μ-loop
-loop-holds c = (search needs, search needs, λ k a b. absurd (omega arith))
+loop-holds c = (omega arith, c .before .pre, λ k a b. absurd (omega arith))
 
-shared-slice-read-if1 : tie.Need-shared-slice-read-if1 Inv-loop μ-loop
-shared-slice-read-if1 c = search needs
+sub-loop : tie.Need-sub-loop Inv-loop μ-loop
+sub-loop c = search needs
+
+has-requires : tie.Need-has-requires Inv-loop μ-loop
+has-requires c κs = search needs
+
+near-either-requires : tie.Need-near-either-requires Inv-loop μ-loop
+near-either-requires c κs = search needs
 
 returns : tie.Need-returns Inv-loop μ-loop
 returns c =
-    let l = c .before .before .before in
-    let v = l .loop .inv in
-    record { from = v .0; within = v .1; none = v .2; there = λ a. b5-starts _ (c .if1 .taken) }
+    let a = c .before .before .before .before .before .before .args in
+    let l = c .before .before .before .before .loop in
+    first-from startsEither (a .part .now) (a .from) (l .i) (c .near-either .result) (l .inv .0) (l .inv .2) (c .near-either .ensures)
 
-shared-slice-read-if2 : tie.Need-shared-slice-read-if2 Inv-loop μ-loop
-shared-slice-read-if2 c = search needs
+has-requires-2 : tie.Need-has-requires-2 Inv-loop μ-loop
+has-requires-2 c κs = search needs
+
+near-either-requires-2 : tie.Need-near-either-requires-2 Inv-loop μ-loop
+near-either-requires-2 c κs = search needs
 
 returns-2 : tie.Need-returns-2 Inv-loop μ-loop
 returns-2 c =
-    let l = c .before .before .before .before .before in
-    let v = l .loop .inv in
-    record { from = v .0; within = v .1; none = v .2; there = λ a. d3-starts _ (c .if2 .taken) }
+    let a = c .before .before .before .before .before .before .before .before .args in
+    let l = c .before .before .before .before .before .before .loop in
+    first-from startsEither (a .part .now) (a .from) (l .i) (c .near-either2 .result) (l .inv .0) (l .inv .2) (c .near-either2 .ensures)
 
 add-i : tie.Need-add-i Inv-loop μ-loop
 add-i c = search needs
@@ -46,14 +54,18 @@ loop-less c = search needs
 
 loop-again : tie.Need-loop-again Inv-loop μ-loop
 loop-again c =
-    let l = c .before .before .before .before .before in
-    (search needs, search needs, below-more _ _ (l .loop .inv .2) (λ a. none-starts _ (c .before .before .if1 .left) (c .if2 .left)))
+    let a = c .before .before .before .before .before .before .before .args in
+    let l = c .before .before .before .before .before .loop in
+    (omega arith, omega arith, below-run (λ k. a .from ≤ k → startsEither (getD (a .part .now) k 0) ≡ false) (l .i) 16 (l .inv .2) (λ k g h _. neither (getD (a .part .now) k 0) (none-of 0xB5 (a .part .now) (l .i) (sym (c .before .before .before .has .ensures) ∙ c .before .before .if1 .left) k g h) (none-of 0xD3 (a .part .now) (l .i) (sym (c .before .has2 .ensures) ∙ c .if2 .left) k g h)))
+
+near-either-requires-3 : tie.Need-near-either-requires-3 Inv-loop μ-loop
+near-either-requires-3 c κs = search needs
 
 returns-3 : tie.Need-returns-3 Inv-loop μ-loop
 returns-3 c =
-    let l = c .before in
-    let v = l .loop .inv in
-    record { from = v .0; within = v .1; none = v .2; there = λ a. absurd (omega arith) }
+    let a = c .before .before .before .before .args in
+    let l = c .before .before .loop in
+    first-from startsEither (a .part .now) (a .from) (l .i) (c .near-either3 .result) (l .inv .0) (l .inv .2) (c .near-either3 .ensures)
 
 pub next-either-spec : {M : Type 1} → statement M
 next-either-spec =
@@ -62,11 +74,15 @@ next-either-spec =
     Inv-loop
     μ-loop
     loop-holds
-    shared-slice-read-if1
+    sub-loop
+    has-requires
+    near-either-requires
     returns
-    shared-slice-read-if2
+    has-requires-2
+    near-either-requires-2
     returns-2
     add-i
     loop-less
     loop-again
+    near-either-requires-3
     returns-3)

@@ -1,0 +1,72 @@
+-- The loop has passed neither D3 nor B5. Assumes nothing.
+use mathlib.Core.Path.{_≡_}
+use mathlib.Core.Bool.{false}
+use Prim.Native.Nat.{ℕ, _-_, _≤_, _<_}
+use native.Mathlib.Omega.{arith}
+use lib.ListN.{length, getD}
+use borrow.Author.Count.{below-more}
+use borrow.Author.Needs.{needs}
+use Rattle.frames.specs.Steps.{startsEither}
+use Rattle.frames.proofs.StartLaws.{b5-starts, d3-starts, none-starts}
+use Rattle.frames.proofs.scan.near_either.Statement.{statement}
+use Rattle.frames.proofs.scan.near_either.Tie as tie
+
+abbrev Inv-loop : tie.InvT-loop
+Inv-loop part from i₀ i = (from ≤ i) × (i ≤ length part) × ((k : ℕ) → k < i → from ≤ k → startsEither (getD part k 0) ≡ false)
+
+abbrev μ-loop : tie.MeasureT-loop
+μ-loop part from i₀ i = length part - i
+
+loop-holds : tie.Need-loop-holds Inv-loop μ-loop
+loop-holds c = (search needs, search needs, λ k a b. absurd (omega arith))
+
+shared-slice-read-if1 : tie.Need-shared-slice-read-if1 Inv-loop μ-loop
+shared-slice-read-if1 c = search needs
+
+returns : tie.Need-returns Inv-loop μ-loop
+returns c =
+    let l = c .before .before .before in
+    let v = l .loop .inv in
+    record { from = v .0; within = v .1; none = v .2; there = λ a. b5-starts _ (c .if1 .taken) }
+
+shared-slice-read-if2 : tie.Need-shared-slice-read-if2 Inv-loop μ-loop
+shared-slice-read-if2 c = search needs
+
+returns-2 : tie.Need-returns-2 Inv-loop μ-loop
+returns-2 c =
+    let l = c .before .before .before .before .before in
+    let v = l .loop .inv in
+    record { from = v .0; within = v .1; none = v .2; there = λ a. d3-starts _ (c .if2 .taken) }
+
+add-i : tie.Need-add-i Inv-loop μ-loop
+add-i c = search needs
+
+loop-less : tie.Need-loop-less Inv-loop μ-loop
+loop-less c = search needs
+
+loop-again : tie.Need-loop-again Inv-loop μ-loop
+loop-again c =
+    let l = c .before .before .before .before .before in
+    (search needs, search needs, below-more _ _ (l .loop .inv .2) (λ a. none-starts _ (c .before .before .if1 .left) (c .if2 .left)))
+
+returns-3 : tie.Need-returns-3 Inv-loop μ-loop
+returns-3 c =
+    let l = c .before in
+    let v = l .loop .inv in
+    record { from = v .0; within = v .1; none = v .2; there = λ a. absurd (omega arith) }
+
+pub near-either-spec : {M : Type 1} → statement M
+near-either-spec =
+    tie.close
+    (tie.spec
+    Inv-loop
+    μ-loop
+    loop-holds
+    shared-slice-read-if1
+    returns
+    shared-slice-read-if2
+    returns-2
+    add-i
+    loop-less
+    loop-again
+    returns-3)
