@@ -4,7 +4,7 @@
 #   make install PREFIX=..   archive, shared object, header and pkg-config file
 #   make check               the C tests: plain, under sanitizers, and under valgrind where it is there
 #   make relay               the example relay, build/peerivolt/opt/relay
-#   make bench               the benchmark against a plain C program, and against the Rust where it is there
+#   make bench               the benchmark against a plain C program, and against the Rust and RTKLIB where they are there
 #   make differential        the runs against the Rust, where its source, cargo and Debian's librust-tinyvec-dev are there
 #   make differential-faults plants faults in the plain reference, each of which those runs must notice
 #   make lint                clang and cppcheck over the C files, where they are there
@@ -131,15 +131,17 @@ $(PROGRAMS:%=$(B)/san/%): $(B)/san/%: $(B)/san/%.o $(B)/san/reference.o $(SAN_AR
 $(B)/opt/test_calls_shared: $(B)/opt/test_calls.o $(SHARED)
 	$(CC) $(LDFLAGS) $^ -Wl,-rpath,$(abspath $(dir $(SHARED))) -o $@
 
-# The benchmark, alone and with the Rust, whose archive RUST_ARCHIVE names.
-BENCH := $(B)/opt/bench$(if $(RUST_ARCHIVE),_rust)
-BENCH_OBJECTS := $(patsubst %,$(B)/opt/%.o,bench bench_rows plain plain_table)
+# The benchmark, alone and with the Rust and RTKLIB, whose archives RUST_ARCHIVE and RTKLIB_ARCHIVE name.
+BENCH := $(B)/opt/bench$(if $(RUST_ARCHIVE),_rust)$(if $(RTKLIB_ARCHIVE),_rtklib)
+BENCH_OBJECTS := $(patsubst %,$(B)/opt/%.o,bench bench_rows plain plain_table \
+    bench_rust$(if $(RUST_ARCHIVE),_linked) bench_rtklib$(if $(RTKLIB_ARCHIVE),_linked))
 
-$(B)/opt/bench: $(BENCH_OBJECTS) $(B)/opt/bench_rust.o $(ARCHIVE)
-	$(CC) $(LDFLAGS) $^ -o $@
+$(B)/opt/bench_rtklib_linked.o: c/bench_rtklib.c Makefile
+	@mkdir -p $(@D)
+	$(CC) $(STD) -O2 $(CFLAGS) -Iinclude -DWITH_RTKLIB -isystem $(dir $(RTKLIB_ARCHIVE))src -D_GNU_SOURCE -MMD -MP -c $< -o $@
 
-$(B)/opt/bench_rust: $(BENCH_OBJECTS) $(B)/opt/bench_rust_linked.o $(ARCHIVE) $(RUST_ARCHIVE)
-	$(CC) $(LDFLAGS) $^ -lpthread -ldl -lm -o $@
+$(BENCH): $(BENCH_OBJECTS) $(ARCHIVE) $(RUST_ARCHIVE) $(RTKLIB_ARCHIVE)
+	$(CC) $(LDFLAGS) -Wl,--gc-sections $^ -lpthread -ldl -lm -o $@
 
 $(HELPERS:%=$(B)/opt/%): $(B)/opt/%: $(B)/opt/%.o $(B)/opt/reference.o
 	$(CC) $(LDFLAGS) $^ -o $@
@@ -236,13 +238,14 @@ install: $(ARCHIVE) $(SHARED)
 
 # ---- Other runs.
 
-# The archive of the Rust is built where it can be; else run.sh says why not, and the column of the Rust stays empty.
+# The archives of the Rust and of RTKLIB are built where they can be; else run.sh and rtklib.sh say why not, and the
+# column stays empty.
 bench: $(ARCHIVE)
-	@said=$$(RTCM_RS_SOURCE="$(RUST_SOURCE)" differential/run.sh rust-archive) || said="bench: the Rust could not be built"; \
-	case "$$said" in \
-	    *.a) $(MAKE) --no-print-directory bench-run RUST_ARCHIVE="$$said" ;; \
-	    *) echo "$$said"; $(MAKE) --no-print-directory bench-run ;; \
-	esac
+	@rust=$$(RTCM_RS_SOURCE="$(RUST_SOURCE)" differential/run.sh rust-archive) || rust="bench: the Rust could not be built"; \
+	rtklib=$$(c/rtklib.sh | tail -n 1); \
+	case "$$rust" in *.a) ;; *) echo "$$rust"; rust= ;; esac; \
+	case "$$rtklib" in *.a) ;; *) echo "$$rtklib"; rtklib= ;; esac; \
+	$(MAKE) --no-print-directory bench-run RUST_ARCHIVE="$$rust" RTKLIB_ARCHIVE="$$rtklib"
 
 bench-run: $(BENCH)
 	$(BENCH)

@@ -13,6 +13,9 @@
 #include "plain.h"
 
 #define ROUNDS 15
+bool comparing;
+static bool all_met = true;
+
 #define SAMPLE_NS 400000.0 /* The least that one sample lasts, for the quickest side. */
 
 const struct library libraries[LIBRARIES] = {
@@ -79,16 +82,20 @@ static void print_head(void)
 {
     printf("Medians of %d rounds of processor time, sides in turns; ratio: ours to that side. Feeding in ns per byte, 1059 per\n"
            "record, the rest per call. plain: bitwise checksum; table: checksum by a table of 256 numbers; rust: its checksum\n"
-           "is that of a stand-in for the crate crc-any, also by a table; - where the Rust has no counterpart.\n", ROUNDS);
+           "is that of a stand-in for the crate crc-any, also by a table; rtklib: its framing alone, one byte a call; - where\n"
+           "a side has no counterpart.\n", ROUNDS);
     if (rust_works.scan == NULL)
         printf("The Rust is not linked into this run: its column has - throughout.\n");
-    printf("\n%-20s %9s %9s %6s %9s %6s %9s %6s\n", "row", "ours ns", "plain ns", "ratio", "table ns", "ratio",
-           "rust ns", "ratio");
+    if (rtklib_works.scan == NULL)
+        printf("RTKLIB is not linked into this run: its column has - throughout.\n");
+    printf("\n%-20s %9s %9s %6s %9s %6s %9s %6s %9s %6s\n", "row", "ours ns", "plain ns", "ratio", "table ns", "ratio",
+           "rust ns", "ratio", "rtklib ns", "ratio");
 }
 
-/* Ends the program unless all sides answer the same, in what each of them gives. */
+/* Ends the program unless all sides answer the same and leave every lent area the same, in what each of them gives. */
 static void check_answers(const char *name, const struct side *sides, size_t n)
 {
+    comparing = true;
     struct answers ours = sides[0].work(sides[0].library, sides[0].input, 1);
     for (size_t i = 1; i < n; i++) {
         struct answers other = sides[i].work(sides[i].library, sides[i].input, 1);
@@ -97,48 +104,70 @@ static void check_answers(const char *name, const struct side *sides, size_t n)
             exit(1);
         }
     }
+    comparing = false;
 }
 
-struct cost row(const char *name, a_work *work, a_work *rust, const void *input, double per)
+struct cost row(const char *name, a_work *work, a_work *rust, a_work *rtklib, const void *input, double per)
 {
+    a_work *works[SIDES] = { work, work, work, rust, rtklib };
     struct side sides[SIDES];
     double ns[SIDES];
-    size_t n = rust == NULL ? LIBRARIES : SIDES;
-    for (size_t i = 0; i < LIBRARIES; i++)
-        sides[i] = (struct side){ work, &libraries[i], input };
-    sides[LIBRARIES] = (struct side){ rust, NULL, input };
+    struct cost cost = { 0 };
+    size_t n = 0;
+    for (size_t i = 0; i < SIDES; i++)
+        if (works[i] != NULL)
+            sides[n++] = (struct side){ works[i], i < LIBRARIES ? &libraries[i] : NULL, input };
     check_answers(name, sides, n);
     measure(sides, n, ns);
-    printf("%-20s %9.2f", name, ns[0] / per);
-    for (size_t i = 1; i < n; i++)
-        printf(" %9.2f %6.2f", ns[i] / per, ns[0] / ns[i]);
-    if (n < SIDES)
-        printf(" %9s %6s", "-", "-");
+    cost.ns = ns[0] / per;
+    printf("%-20s %9.2f", name, cost.ns);
+    for (size_t i = 1, at = 1; i < SIDES; i++) {
+        if (works[i] == NULL) {
+            printf(" %9s %6s", "-", "-");
+            continue;
+        }
+        cost.to[i] = ns[0] / ns[at];
+        printf(" %9.2f %6.2f", ns[at++] / per, cost.to[i]);
+    }
     printf("\n");
     fflush(stdout);
-    return (struct cost){ ns[0] / per, ns[0] / ns[1] };
+    return cost;
 }
 
 void print_limit(const char *what, double got, const char *unit, double limit, bool at_most)
 {
     bool met = at_most ? got <= limit : got >= limit;
+    all_met = all_met && met;
     printf("%-56s %8.2f%s (%s %.2f): %s\n", what, got, unit, at_most ? "at most" : "at least", limit, met ? "met" : "NOT met");
+}
+
+/* Our speed against a side's; no limit where the side is not there. */
+static void print_speed(const char *what, struct cost cost, size_t side, double limit)
+{
+    if (cost.to[side] > 0)
+        print_limit(what, 1 / cost.to[side], " times", limit, false);
 }
 
 int main(void)
 {
     struct bytes clean = clean_stream(100000);
     print_head();
-    rows_of_small_calls();
-    rows_of_streams(clean);
+    struct sum_costs sums = rows_of_small_calls();
+    struct cost fed = rows_of_streams(clean);
     struct block_costs costs = rows_of_blocks();
 
     printf("\nLimits\n");
-    limits_of_scanning(clean);
+    print_speed("speed of the checksum of 6 bytes, to a table in C", sums.of_6, TABLE, 0.9);
+    print_speed("speed of the checksum of 20 bytes, to a table in C", sums.of_20, TABLE, 0.9);
+    print_speed("speed of the checksum of 100 bytes, to a table in C", sums.of_100, TABLE, 4);
+    print_speed("speed of the checksum of 1,026 bytes, to a table in C", sums.of_1026, TABLE, 8);
+    print_speed("speed over a clean stream, to a scan by a table in C", fed, TABLE, 5);
+    print_speed("speed over a clean stream, to RTKLIB's framing", fed, RTKLIB, 8);
+    limits_of_scanning();
     print_limit("reading 1059, for each of 400 records", costs.read.ns, " ns", 12, true);
     print_limit("writing 1059, for each of 400 records", costs.write.ns, " ns", 40, true);
-    print_limit("reading 1059, to the plain program", costs.read.ratio, " times", 2, true);
-    print_limit("writing 1059, to the plain program", costs.write.ratio, " times", 2, true);
+    print_limit("reading 1059, to the plain program", costs.read.to[PLAIN], " times", 2, true);
+    print_limit("writing 1059, to the plain program", costs.write.to[PLAIN], " times", 2, true);
     free(clean.at);
-    return 0;
+    return all_met ? 0 : 1;
 }
