@@ -8,8 +8,9 @@ use native.Mathlib.Omega.{arith}
 use lib.ListN.{length}
 use Rattle.bits.specs.Told.{Accepted}
 use Rattle.bits.specs.Field.{field, Reading, reading}
-use Rattle.bits.specs.Signed.{twosOf, fitsTwos}
-use Rattle.bits.specs.Fields.{total, Holds}
+use Rattle.bits.specs.Signed.{twosOf, fitsTwos, twosBits}
+use Rattle.bits.specs.Fields.{total, Holds, bits}
+use Rattle.bits.proofs.FieldsLaws.{total-none, total-next, holds-none, holds-next, holds-first, holds-rest}
 use Rattle.bits.proofs.FieldLaws.{field-lt}
 use Rattle.bits.proofs.SignedLaws.{twos-back, twos-again, twos-fits}
 use Rattle.messages.specs.Every.{Every}
@@ -52,16 +53,18 @@ module _ (s : List ℕ) (a : ℕ) where
 
   -- what is read stands there
   none : (p : ℕ) → Biases s a 0 p [] p
-  unfolding biasFields Holds total
-  none p = record { holds = tt; ends = omega arith; within = λ h. h; count = refl; own = tt }
+  unfolding biasFields
+  none p = record { holds = holds-none s p; ends = omega (arith, total-none); within = λ h. h; count = refl; own = tt }
 
   one-more : (n p r : ℕ) (rs : List Rec1059) → p + 5 + 14 ≤ length s * 8 → Biases s a n (p + 5 + 14) rs r → Biases s a (suc n) p (there p .value ++ rs) r
-  unfolding biasFields Holds total
+  unfolding biasFields
   one-more n p r rs h b =
       let f = field-lt s (p + 5) 14 in
+      let g = field s p 5 in
+      let v = twosBits 14 (twosOf 14 (field s (p + 5) 14)) in
       record {
-        holds = (refl, (sym (twos-again 14 (omega arith) (field s (p + 5) 14) f), b .holds));
-        ends = omega arith;
+        holds = holds-next s p 5 g (bits 14 v ∷ biasFields rs) refl (holds-next s (p + 5) 14 v (biasFields rs) (sym (twos-again 14 (omega arith) (field s (p + 5) 14) f)) (b .holds));
+        ends = omega (arith, total-next 5 g (bits 14 v ∷ biasFields rs), total-next 14 v (biasFields rs), b .ends);
         within = λ l. b .within h;
         count = ap suc (b .count);
         own = ((refl, twos-fits 14 (omega arith) (field s (p + 5) 14) f), b .own);
@@ -79,12 +82,16 @@ module _ (s : List ℕ) (a : ℕ) where
   -- what stands there is read
   pub biases-read : length s ≤ 1023 → (rs : List Rec1059) (p : ℕ) → Every (Own a) rs → Holds s p (biasFields rs) → p + total (biasFields rs) ≤ length s * 8
       → many (biasAt s a) (length rs) p ≡ Accepted (reading rs (p + total (biasFields rs)))
-  unfolding biasFields Holds total
-  biases-read few [] p o h l = many-none (biasAt s a) p ∙ ap (λ (n : ℕ). Accepted (reading [] n)) (sym (add-zero p))
+  unfolding biasFields
+  biases-read few [] p o h l = many-none (biasAt s a) p ∙ ap (λ (n : ℕ). Accepted (reading [] n)) (sym (ap (λ (n : ℕ). p + n) total-none ∙ add-zero p))
   biases-read few (rec1059 b g z ∷ rs) p o h l =
-      let y : twosOf 14 (field s (p + 5) 14) ≡ z = ap (twosOf 14) (h .1 .0) ∙ twos-back 14 (omega arith) z (o .0 .1) in
-      let e : there p .value ≡ rec1059 b g z ∷ [] = cc (h .0, o .0 .0) in
-      let n : p + 5 + 14 + total (biasFields rs) ≡ p + (5 + (14 + total (biasFields rs))) = omega arith in
+      let v = twosBits 14 z in
+      let fs = biasFields rs in
+      let rest = holds-rest s p 5 g (bits 14 v ∷ fs) h in
+      let y : twosOf 14 (field s (p + 5) 14) ≡ z = ap (twosOf 14) (holds-first s (p + 5) 14 v fs rest) ∙ twos-back 14 (omega arith) z (o .0 .1) in
+      let e : there p .value ≡ rec1059 b g z ∷ [] = cc (holds-first s p 5 g (bits 14 v ∷ fs) h, o .0 .0) in
+      let t : total (bits 5 g ∷ bits 14 v ∷ fs) ≡ 5 + (14 + total fs) = total-next 5 g (bits 14 v ∷ fs) ∙ ap (λ (n : ℕ). 5 + n) (total-next 14 v fs) in
+      let n : p + 5 + 14 + total fs ≡ p + total (bits 5 g ∷ bits 14 v ∷ fs) = omega arith in
       many-more (biasAt s a) (length rs) (bias-reads p few (omega arith) ∙ ap (λ (x : List Rec1059). Accepted (reading x (p + 5 + 14))) e)
-      (biases-read few rs (p + 5 + 14) (o .1) (h .1 .1) (omega arith))
+      (biases-read few rs (p + 5 + 14) (o .1) (holds-rest s (p + 5) 14 v fs rest) (omega arith))
       ∙ ap (λ (k : ℕ). Accepted (reading (rec1059 b g z ∷ rs) k)) n

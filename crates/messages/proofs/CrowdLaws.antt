@@ -11,7 +11,7 @@ use lib.ListN.{length, drop, getD, drop-of-length-le}
 use lib.Seq.{drop-cons}
 use Rattle.bits.specs.Told.{Told, tooMany}
 use Rattle.bits.specs.Fields.{total}
-use Rattle.bits.proofs.FieldsLaws.{total-append}
+use Rattle.bits.proofs.FieldsLaws.{total-append, total-none, total-next}
 use Rattle.messages.specs.Writer.{fine}
 use Rattle.messages.specs.Records.{Rec1059}
 use Rattle.messages.specs.Write1059.{ofSatellite, crowded, present, satelliteFields, satellitesFrom, fields1059}
@@ -87,8 +87,8 @@ module _ (rs : List Rec1059) (cs : List ℕ) (all : length cs ≡ 64) (e : (a : 
       ∙ sym (present-cons cs a (omega arith))
 
   pub total-is : (n a : ℕ) → a + n ≡ 64 → total (satellitesFrom a n rs) ≡ presentIn (drop a cs) * 11 + sumOf (drop a cs) * 19
-  unfolding total satellitesFrom
-  total-is zero a h = omega (arith, present-none cs a (omega arith), sum-none cs a (omega arith))
+  unfolding satellitesFrom
+  total-is zero a h = omega (arith, total-none, present-none cs a (omega arith), sum-none cs a (omega arith))
   total-is (suc n) a h =
       let k : length (ofSatellite a rs) ≡ getD cs a 0 = sym (e a (omega arith)) in
       let t : total (satelliteFields a (ofSatellite a rs)) ≡ cond (eqb (getD cs a 0) 0) 0 1 * 11 + getD cs a 0 * 19 = total-satellite a (ofSatellite a rs) ∙ ap (λ (c : ℕ). cond (eqb c 0) 0 1 * 11 + c * 19) k in
@@ -96,5 +96,5 @@ module _ (rs : List Rec1059) (cs : List ℕ) (all : length cs ≡ 64) (e : (a : 
 
   -- the bits of the block
   pub bits-is : total (fields1059 rs) ≡ 6 + presentIn cs * 11 + sumOf cs * 19
-  unfolding total fields1059
-  bits-is = omega (arith, total-is 64 0 refl)
+  unfolding fields1059
+  bits-is = omega (arith, total-next 6 (present 0 64 rs) (satellitesFrom 0 64 rs), total-is 64 0 refl)

@@ -1,13 +1,13 @@
 -- How far a block that was read extends, and how many records it can have. Assumes nothing.
 use mathlib.Core.Path.{_≡_, refl, ap}
-use mathlib.Core.List.{List, [], _∷_}
+use mathlib.Core.List.{List, [], _∷_, _++_}
 use Prim.Native.Nat.{ℕ, _+_, _*_, _≤_}
 use native.Mathlib.Omega.{arith}
 use lib.ListN.{length, length-append}
 use Rattle.bits.specs.Told.{Told, Accepted, Refused, andThen}
 use Rattle.bits.specs.Field.{Reading, field, readUnsigned}
-use Rattle.bits.specs.Fields.{total, Holds}
-use Rattle.bits.proofs.FieldsLaws.{total-append}
+use Rattle.bits.specs.Fields.{total, Holds, bits}
+use Rattle.bits.proofs.FieldsLaws.{total-append, total-none, total-next, holds-first}
 use Rattle.bits.proofs.ReadLaws.{read-tells}
 use Rattle.messages.specs.Every.{Every}
 use Rattle.messages.specs.Records.{Rec1059, Rec1230}
@@ -27,13 +27,15 @@ pub record Taken (xs : List Sat) : Type 0 where
   pub most : length (recordsOf xs) ≤ length xs * 31
 
 pub taken : (xs : List Sat) → Every Sound xs → Taken xs
-unfolding total satFields recordsOf
-taken [] o = record { bits = omega arith; most = omega arith }
+unfolding satFields recordsOf
+taken [] o = record { bits = omega (arith, total-none); most = omega arith }
 taken (x ∷ xs) o =
     let t = taken xs (o .1) in
     let l = length-append (x .records) (recordsOf xs) in
+    let k = length (x .records) in
+    let fs = biasFields (x .records) ++ satFields xs in
     record {
-      bits = omega (arith, total-append (biasFields (x .records)) (satFields xs), total-biases (x .records), t .bits);
+      bits = omega (arith, total-next 6 (x .number) (bits 5 k ∷ fs), total-next 5 k fs, total-append (biasFields (x .records)) (satFields xs), total-biases (x .records), t .bits);
       most = omega (arith, t .most, o .0 .thin);
     }
 
@@ -45,15 +47,15 @@ pub record Extent1059 (s : List ℕ) (p n : ℕ) (r : Reading (List Rec1059)) : 
   pub limit : length s ≤ 1023
 
 pub block1059-extends : (s : List ℕ) (p : ℕ) {r : Reading (List Rec1059)} → block1059 s p ≡ Accepted r → Extent1059 s (p + 6) (field s p 6) r
-unfolding Holds total
 block1059-extends s p {r} e =
     let x = block-satellites s p {q = r .next} {rs = r .value} e in
     let b = block-stands s p (x .1) in
     let t = taken (x .0) (b .sound) in
     let n : length (recordsOf (x .0)) ≡ length (r .value) = ap length (x .2) in
+    let k : field s p 6 ≡ length (x .0) = holds-first s p 6 (length (x .0)) (satFields (x .0)) (b .holds) in
     record {
-      end = omega (arith, t .bits, b .ends, b .holds .0);
-      few = omega (arith, t .most, b .holds .0);
+      end = omega (arith, t .bits, b .ends, total-next 6 (length (x .0)) (satFields (x .0)));
+      few = omega (arith, t .most);
       within = b .within;
       limit = b .few;
     }

@@ -8,7 +8,9 @@ use native.Mathlib.Omega.{arith}
 use borrow.Author.Tests.{ne-eqb}
 use lib.Dec.{eqb}
 use lib.ListN.{length}
+use Rattle.bits.specs.Signed.{twosBits}
 use Rattle.bits.specs.Fields.{bits, total}
+use Rattle.bits.proofs.FieldsLaws.{total-none, total-next}
 use Rattle.messages.specs.Records.{Rec1059, rec1059}
 use Rattle.messages.specs.Write1059.{ofSatellite, biasFields, satelliteFields, satellitesFrom}
 
@@ -41,12 +43,17 @@ module _ (rs : List Rec1059) (a : ℕ) where
 -- ---- bits
 
 pub total-biases : (rs : List Rec1059) → total (biasFields rs) ≡ length rs * 19
-unfolding total biasFields
-total-biases [] = refl
-total-biases (rec1059 a g z ∷ rs) = omega (arith, total-biases rs)
+unfolding biasFields
+total-biases [] = total-none
+total-biases (rec1059 a g z ∷ rs) =
+    let v = twosBits 14 z in
+    omega (arith, total-next 5 g (bits 14 v ∷ biasFields rs), total-next 14 v (biasFields rs), total-biases rs)
 
 -- 11 bits of a satellite that has records, and 19 of each record
 pub total-satellite : (a : ℕ) (rs : List Rec1059) → total (satelliteFields a rs) ≡ cond (eqb (length rs) 0) 0 1 * 11 + length rs * 19
-unfolding total satelliteFields
-total-satellite a [] = refl
-total-satellite a (r ∷ rs) = rw (ne-eqb (length (r ∷ rs)) 0 (λ e. omega arith)) (omega (arith, total-biases (r ∷ rs)))
+unfolding satelliteFields
+total-satellite a [] = total-none
+total-satellite a (r ∷ rs) =
+    let n = length (r ∷ rs) in
+    let fs = biasFields (r ∷ rs) in
+    rw (ne-eqb (length (r ∷ rs)) 0 (λ e. omega arith)) (omega (arith, total-next 6 a (bits 5 n ∷ fs), total-next 5 n fs, total-biases (r ∷ rs)))

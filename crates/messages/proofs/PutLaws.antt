@@ -18,7 +18,7 @@ use Rattle.bits.specs.Fields.{Field, bits, total, putAll}
 use Rattle.bits.specs.Answers.{toldWritten}
 use Rattle.bits.specs.declared.field.Written.{Written}
 use Rattle.bits.specs.declared.field.Written.the-variants.{End}
-use Rattle.bits.proofs.FieldsLaws.{total-append, put-append, length-put-all}
+use Rattle.bits.proofs.FieldsLaws.{total-append, put-append, length-put-all, total-one, total-none, put-one, put-none}
 use Rattle.bits.proofs.field.Written.{the-type}
 use Rattle.bits.proofs.WriteLaws.{writes}
 use Rattle.bits.proofs.ToldLaws.{only-wrote}
@@ -31,23 +31,6 @@ room-test start n all h = go (decLe start (all - n))
     go : Dec (start ≤ all - n) → leb start (all - n) ≡ leb (start + n) all
     go (yes l) = le-leb start (all - n) l ∙ sym (le-leb (start + n) all (omega arith))
     go (no l) = lt-leb start (all - n) (omega arith) ∙ sym (lt-leb (start + n) all (omega arith))
-
--- one field
-pub total-one : (w v : ℕ) → total (bits w v ∷ []) ≡ w
-unfolding total
-total-one w v = add-zero w
-
-pub put-one : (s : List ℕ) (p w v : ℕ) → putAll s p (bits w v ∷ []) ≡ putField s p w v
-unfolding putAll
-put-one s p w v = refl
-
-total-none : total [] ≡ 0
-unfolding total
-total-none = refl
-
-put-none : (s : List ℕ) (p : ℕ) → putAll s p [] ≡ s
-unfolding putAll
-put-none s p = refl
 
 -- nothing is put
 pub did-none : (s : List ℕ) (p : ℕ) {fs : List Field} → fs ≡ [] → Did s p fs s p

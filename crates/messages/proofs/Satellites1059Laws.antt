@@ -8,7 +8,7 @@ use Rattle.bits.specs.Told.{Accepted, Told, Refused, andThen}
 use Rattle.bits.specs.Field.{field, Reading, reading, readUnsigned}
 use Rattle.bits.specs.Fields.{Field, bits, total, Holds}
 use Rattle.bits.proofs.FieldLaws.{field-lt}
-use Rattle.bits.proofs.FieldsLaws.{total-append, holds-join}
+use Rattle.bits.proofs.FieldsLaws.{total-append, holds-join, total-none, total-next, holds-none, holds-next}
 use Rattle.messages.specs.Every.{Every}
 use Rattle.messages.specs.Reader.{many, before}
 use Rattle.messages.specs.Records.{Rec1059}
@@ -43,17 +43,20 @@ pub record Sats (s : List ℕ) (n p : ℕ) (xs : List Sat) (q : ℕ) : Type 0 wh
 
 module _ (s : List ℕ) where
   none : (p : ℕ) → Sats s 0 p [] p
-  unfolding satFields Holds total
-  none p = record { holds = tt; ends = omega arith; within = λ h. h; count = refl; sound = tt }
+  unfolding satFields
+  none p = record { holds = holds-none s p; ends = omega (arith, total-none); within = λ h. h; count = refl; sound = tt }
 
   one-more : (n p q r : ℕ) (rs : List Rec1059) (xs : List Sat) → p + 6 + 5 ≤ length s * 8 → Biases s (field s p 6) (field s (p + 6) 5) (p + 6 + 5) rs q → Sats s n q xs r
       → Sats s (suc n) p (sat (field s p 6) rs ∷ xs) r
-  unfolding satFields Holds total
+  unfolding satFields
   one-more n p q r rs xs h b y =
       let w = b .within h in
+      let a = field s p 6 in
+      let k = length rs in
+      let fs = biasFields rs ++ satFields xs in
       record {
-        holds = (refl, (sym (b .count), holds-join s (p + 6 + 5) (biasFields rs) (satFields xs) (b .holds) (subst (λ (k : ℕ). Holds s k (satFields xs)) (b .ends) (y .holds))));
-        ends = omega (arith, total-append (biasFields rs) (satFields xs), b .ends, y .ends);
+        holds = holds-next s p 6 a (bits 5 k ∷ fs) refl (holds-next s (p + 6) 5 k fs (sym (b .count)) (holds-join s (p + 6 + 5) (biasFields rs) (satFields xs) (b .holds) (subst (λ (k : ℕ). Holds s k (satFields xs)) (b .ends) (y .holds))));
+        ends = omega (arith, total-next 6 a (bits 5 k ∷ fs), total-next 5 k fs, total-append (biasFields rs) (satFields xs), b .ends, y .ends);
         within = λ l. y .within w;
         count = ap suc (y .count);
         sound =
@@ -79,7 +82,7 @@ module _ (s : List ℕ) where
     pub within : q ≤ length s * 8
 
   pub block-stands : (p : ℕ) {q : ℕ} {xs : List Sat} → satellites1059 s p ≡ Accepted (reading xs q) → Block p xs q
-  unfolding satellites1059 Holds total
+  unfolding satellites1059
   block-stands p {q} {xs} e =
       let n = field-accepted (λ v. v) s p 6 _ e in
       let y = many-tells (satAt s) (Sats s) none more (field s p 6) (p + 6) q xs (n .then) in
@@ -87,8 +90,8 @@ module _ (s : List ℕ) where
         few = n .few;
         fewer = omega (arith, field-lt s p 6, y .count);
         sound = y .sound;
-        holds = (sym (y .count), y .holds);
-        ends = omega (arith, y .ends);
+        holds = holds-next s p 6 (length xs) (satFields xs) (sym (y .count)) (y .holds);
+        ends = omega (arith, y .ends, total-next 6 (length xs) (satFields xs));
         within = y .within (n .within);
       }
 
