@@ -1,16 +1,15 @@
 -- The rule of the checksum's table, and a byte of the checksum by it. Assumes nothing.
 use mathlib.Core.Path.{_≡_, sym, ap, ap₂, _∙_}
 use mathlib.Core.Bool.{Bool}
-use mathlib.Core.List.{List, [], _∷_}
 use Prim.Native.Nat.{ℕ, zero, suc, _+_, _*_, _/_, _%_, _^_, _<_}
 use native.Mathlib.Nat.{mod-lt, mod-mod, mul-assoc, mul-one, pow-suc}
 use native.Mathlib.Omega.{arith}
 use lib.Dec.{eqb, eqb→eq}
-use lib.ListN.{length, getD}
-use lib.Pow.{pow-pos, field, split}
-use lib.Bits.{bitXor, xor-shifted, xor-mod, xor-lt, xor-comm}
+use lib.ListN.{getD}
+use lib.Pow.{pow-pos, field, mod-pow-add}
+use lib.Bits.{bitXor, xor-shifted, xor-mod, xor-lt, xor-comm, xor-self, xor-zero-r}
 use Rattle.crctable.specs.Table.{table}
-use Rattle.bits.specs.Crc.{crcBit, crcBits, crcByte, crcFrom}
+use Rattle.bits.specs.Crc.{crcBit, crcBits, crcByte}
 use Rattle.bits.proofs.CrcLaws.{bits-linear}
 use Rattle.bits.proofs.XorLaws.{xor-assoc, xor-shl}
 use Rattle.bits.proofs.EveryPlace.{at}
@@ -18,12 +17,18 @@ use Rattle.bits.proofs.EveryPlace.{at}
 -- ---- the rule
 
 right : ℕ → ℕ → Bool
-right i x = eqb x (crcBits 8 (i * 2 ^ 16))
+right j x = eqb x (crcBits 8 (bitXor j 128 * 2 ^ 16))
 
--- number i of the table is what eight bit steps make of the byte i in the top bits
-rule : (i : ℕ) → i < 256 → getD table i 0 ≡ crcBits 8 (i * 2 ^ 16)
+-- the number at place j of the table is what eight bit steps make, in the top bits, of the byte j with its top bit turned
+rule : (j : ℕ) → j < 256 → getD table j 0 ≡ crcBits 8 (bitXor j 128 * 2 ^ 16)
 unfolding table right crcBits crcBit
-rule i h = eqb→eq (getD table i 0) (crcBits 8 (i * 2 ^ 16)) (at right table tt i h)
+rule j h = eqb→eq (getD table j 0) (crcBits 8 (bitXor j 128 * 2 ^ 16)) (at right table tt j h)
+
+-- the number of a byte
+number : (i : ℕ) → i < 256 → getD table (bitXor i 128) 0 ≡ crcBits 8 (i * 2 ^ 16)
+number i h =
+    rule (bitXor i 128) (xor-lt 8 i 128 h (omega arith))
+    ∙ ap (λ (n : ℕ). crcBits 8 (n * 2 ^ 16)) (xor-assoc i 128 128 ∙ ap (bitXor i) (xor-self 128) ∙ xor-zero-r i)
 
 -- ---- bit steps
 
@@ -62,30 +67,21 @@ bits-shift (suc w) x h =
 -- ---- a byte by the table
 
 -- the byte in the top, apart from the rest
-parted : (c b : ℕ) → bitXor (b * 2 ^ 16) c ≡ bitXor (bitXor (c / 2 ^ 16) b * 2 ^ 16) (c % 2 ^ 16)
-parted c b =
-    let h = c / 2 ^ 16 in
-    ap (bitXor (b * 2 ^ 16)) (sym (xor-shifted h 16 (c % 2 ^ 16) (mod-lt c (pow-pos 16)) ∙ split c 16))
-    ∙ sym (xor-assoc (b * 2 ^ 16) (h * 2 ^ 16) (c % 2 ^ 16))
-    ∙ ap (λ (n : ℕ). bitXor n (c % 2 ^ 16)) (xor-comm (b * 2 ^ 16) (h * 2 ^ 16) ∙ sym (xor-shl h b 16))
+parted : (c b : ℕ) → b < 256 → bitXor (b * 2 ^ 16) c % 2 ^ 24 ≡ bitXor (bitXor (c / 2 ^ 16 % 256) b * 2 ^ 16) (c % 2 ^ 16)
+parted c b h =
+    let d : c % 2 ^ 24 ≡ c / 2 ^ 16 % 256 * 2 ^ 16 + c % 2 ^ 16 = mod-pow-add c 8 16 in
+    let e : b * 2 ^ 16 % 2 ^ 24 ≡ b * 2 ^ 16 = omega arith in
+    xor-mod (b * 2 ^ 16) c 24
+    ∙ ap₂ bitXor e (d ∙ sym (xor-shifted (c / 2 ^ 16 % 256) 16 (c % 2 ^ 16) (mod-lt c (pow-pos 16))))
+    ∙ sym (xor-assoc (b * 2 ^ 16) (c / 2 ^ 16 % 256 * 2 ^ 16) (c % 2 ^ 16))
+    ∙ ap (λ (n : ℕ). bitXor n (c % 2 ^ 16)) (xor-comm (b * 2 ^ 16) (c / 2 ^ 16 % 256 * 2 ^ 16) ∙ sym (xor-shl (c / 2 ^ 16 % 256) b 16))
 
 -- the table's number for the byte that falls out, and the rest moved up
-pub by-table : (c b : ℕ) → c < 2 ^ 24 → b < 256 → bitXor (getD table (bitXor (c / 2 ^ 16) b) 0) (c % 2 ^ 16 * 256) ≡ crcByte c b
+pub by-table : (c b : ℕ) → b < 256 → bitXor (getD table (bitXor (bitXor (c / 2 ^ 16 % 256) b) 128) 0) (c % 2 ^ 16 * 256) ≡ crcByte c b
 unfolding crcByte
-by-table c b l h =
-    let i = bitXor (c / 2 ^ 16) b in
-    ap₂ bitXor (rule i (xor-lt 8 (c / 2 ^ 16) b (omega arith) h)) (sym (bits-shift 8 (c % 2 ^ 16) (omega arith)))
+by-table c b h =
+    let i = bitXor (c / 2 ^ 16 % 256) b in
+    ap₂ bitXor (number i (xor-lt 8 (c / 2 ^ 16 % 256) b (mod-lt (c / 2 ^ 16) (pow-pos 8)) h)) (sym (bits-shift 8 (c % 2 ^ 16) (omega arith)))
     ∙ sym (bits-linear 8 (i * 2 ^ 16) (c % 2 ^ 16))
-    ∙ ap (crcBits 8) (sym (parted c b))
-
--- only 24 bits of a sum count, where a byte follows
-pub sum-mod : (s : List ℕ) (c : ℕ) → 0 < length s → crcFrom (c % 2 ^ 24) s ≡ crcFrom c s
-unfolding crcFrom crcByte
-sum-mod [] c h = absurd (omega arith)
-sum-mod (b ∷ s) c h = ap (λ (n : ℕ). crcFrom n s) (low ∙ sym (bits-mod 7 (bitXor (b * 2 ^ 16) c)))
-  where
-    low : crcBits 8 (bitXor (b * 2 ^ 16) (c % 2 ^ 24)) ≡ crcBits 8 (bitXor (b * 2 ^ 16) c % 2 ^ 24)
-    low =
-        bits-mod 7 (bitXor (b * 2 ^ 16) (c % 2 ^ 24))
-        ∙ ap (crcBits 8)
-        (xor-mod (b * 2 ^ 16) (c % 2 ^ 24) 24 ∙ ap (bitXor (b * 2 ^ 16 % 2 ^ 24)) (mod-mod c (2 ^ 24)) ∙ sym (xor-mod (b * 2 ^ 16) c 24))
+    ∙ ap (crcBits 8) (sym (parted c b h))
+    ∙ sym (bits-mod 7 (bitXor (b * 2 ^ 16) c))

@@ -1,7 +1,6 @@
 // CRC-24Q: the first bytes one at a time from a table of 256 numbers, until whole words of eight bytes are left; the
 // words by folding.
 ghost use mathlib.Core.Path.{_≡_};
-ghost use Prim.Native.Nat.{_^_, _<_};
 ghost use Rattle.bits.specs.Crc.{crcByte, crcFrom, crc};
 use crate::fold;
 use crate::raw;
@@ -17,11 +16,8 @@ pub fn crc24q(bytes: &[u8]) -> u32
 pub fn crc24q_from(sum: u32, bytes: &[u8]) -> u32
     ensures { λ r. ⌜ r ≡ crcFrom sum (now (bytes .entry)) ⌝ }
 {
-    if bytes.len() == 0 {
-        return sum;
-    }
     let front = bytes.len() % 8;
-    let c = by_table(sum % 0x100_0000, &bytes[0..front]);
+    let c = by_table(sum, &bytes[0..front]);
     if bytes.len() < 8 {
         return c;
     }
@@ -31,7 +27,6 @@ pub fn crc24q_from(sum: u32, bytes: &[u8]) -> u32
 
 // The same a byte at a time.
 fn by_table(sum: u32, bytes: &[u8]) -> u32
-    requires { ⌜ sum < 2 ^ 24 ⌝ }
     ensures { λ r. ⌜ r ≡ crcFrom sum (now (bytes .entry)) ⌝ }
 {
     let mut c = sum;
@@ -45,8 +40,7 @@ fn by_table(sum: u32, bytes: &[u8]) -> u32
 
 // The checksum after one byte more: the table's number for the byte that falls out, and the rest moved up.
 fn crc_byte(c: u32, b: u8) -> u32
-    requires { ⌜ c < 2 ^ 24 ⌝ }
     ensures { λ r. ⌜ r ≡ crcByte c b ⌝ }
 {
-    crctable::entry((c >> 16) ^ (b as u32)) ^ (c % 0x1_0000 * 256)
+    crctable::entry(((c >> 16) % 256) ^ (b as u32) ^ 128) ^ (c % 0x1_0000 * 256)
 }

@@ -1,29 +1,28 @@
 -- The checksum so far, continued over what is left, is the whole. Assumes nothing.
 use mathlib.Core.Path.{_≡_, refl, sym, _∙_}
-use Prim.Native.Nat.{_≤_, _<_, _-_, _^_}
+use Prim.Native.Nat.{_≤_, _-_}
 use native.Mathlib.Omega.{arith}
 use lib.ListN.{length, drop}
 use borrow.Author.Needs.{needs}
 use Rattle.bits.specs.Crc.{crcFrom}
-use Rattle.bits.proofs.CrcLaws.{byte-below, from-more, from-end}
+use Rattle.bits.proofs.CrcLaws.{from-more, from-end}
 use Rattle.bits.proofs.crc.by_table.Statement.{statement}
 use Rattle.bits.proofs.crc.by_table.Tie as tie
 
 abbrev Inv-loop : tie.InvT-loop
-Inv-loop sum bytes c₀ i₀ c i =
-    (i ≤ length bytes) × (c < 2 ^ 24) × (crcFrom c (drop i bytes) ≡ crcFrom sum bytes)
+Inv-loop sum bytes c₀ i₀ c i = (i ≤ length bytes) × (crcFrom c (drop i bytes) ≡ crcFrom sum bytes)
 
 abbrev μ-loop : tie.MeasureT-loop
 μ-loop sum bytes c₀ i₀ c i = length bytes - i
 
 loop-holds : tie.Need-loop-holds Inv-loop μ-loop
-loop-holds c = (search needs, c .before .pre, refl)
+loop-holds c = (search needs, refl)
 
 shared-slice-read-crc-byte : tie.Need-shared-slice-read-crc-byte Inv-loop μ-loop
 shared-slice-read-crc-byte c = search needs
 
 crc-byte-requires : tie.Need-crc-byte-requires Inv-loop μ-loop
-crc-byte-requires c κs = c .before .before .loop .inv .1
+crc-byte-requires c κs = search needs
 
 add-i : tie.Need-add-i Inv-loop μ-loop
 add-i c = search needs
@@ -35,12 +34,12 @@ loop-again : tie.Need-loop-again Inv-loop μ-loop
 loop-again c =
     let l = c .before .before .before .loop in
     let s = c .before .before .before .before .before .args .bytes .now in
-    (omega arith, rw (c .crc-byte .ensures) (byte-below (l .c) _), rw (c .crc-byte .ensures) (sym (from-more s (l .i) (l .c) (omega arith)) ∙ l .inv .2))
+    (omega arith, rw (c .crc-byte .ensures) (sym (from-more s (l .i) (l .c) (omega arith)) ∙ l .inv .1))
 
 returns : tie.Need-returns Inv-loop μ-loop
 returns c =
     let l = c .before .loop in
-    sym (from-end (c .before .before .before .args .bytes .now) (l .i) (l .c) (omega arith)) ∙ l .inv .2
+    sym (from-end (c .before .before .before .args .bytes .now) (l .i) (l .c) (omega arith)) ∙ l .inv .1
 
 pub by-table-spec : {M : Type 1} → statement M
 by-table-spec =

@@ -17,7 +17,7 @@ mul-result c = search needs
 returns : tie.Need-returns
 returns c =
     let a = c .before .args in
-    ap (λ (e : ℕ). bitXor e (a .c % 2 ^ 16 * 256)) (c .entry .ensures) ∙ by-table (a .c) (a .b) (c .before .pre) (omega arith)
+    ap (λ (e : ℕ). bitXor e (a .c % 2 ^ 16 * 256)) (c .entry .ensures) ∙ by-table (a .c) (a .b) (omega arith)
 
 pub crc-byte-spec : {M : Type 1} → statement M
 crc-byte-spec = tie.close (tie.spec entry-requires mul-result returns)
