@@ -1,0 +1,9 @@
+pub mod Slots
+pub mod KeyLaws
+pub mod FindLaws
+pub mod CallLaws
+pub mod OwnStore
+pub mod Isolation
+pub mod PlaceLaws
+pub mod CodeLaws
+pub mod ToldLaws

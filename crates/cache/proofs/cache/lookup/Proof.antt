@@ -1,0 +1,41 @@
+-- Each refusal in its order; then the value of the first place, or Absent. Assumes nothing.
+use mathlib.Core.Path.{_≡_, sym, _∙_}
+use borrow.Author.Tests.{not-true, not-false}
+use borrow.Author.Needs.{needs}
+use Rattle.cache.specs.Cache.{key}
+use Rattle.cache.proofs.CodeLaws.{lookup-size, lookup-key, found-there, not-found, at-key, no-value}
+use Rattle.cache.proofs.cache.lookup.Statement.{statement}
+use Rattle.cache.proofs.cache.lookup.Tie as tie
+
+returns : tie.Need-returns
+returns c = let a = c .before .args in lookup-size (key (a .key .provider) (a .key .solution) (a .key .satellite) (a .key .signal)) (a .entries .now) (c .if1 .taken)
+
+returns-2 : tie.Need-returns-2
+returns-2 c = let a = c .before .before .before .args in lookup-key (key (a .key .provider) (a .key .solution) (a .key .satellite) (a .key .signal)) (a .entries .now) (c .before .before .if1 .left) (sym (c .before .fits-key .ensures) ∙ not-true _ (c .if2 .taken))
+
+entry-of-requires : tie.Need-entry-of-requires
+entry-of-requires c κs = ((sym (c .before .fits-key .ensures) ∙ not-false _ (c .if2 .left)), no-value)
+
+returns-3 : tie.Need-returns-3
+returns-3 c = let a = c .before .before .before .before .before .before .before .before .before .args in found-there (key (a .key .provider) (a .key .solution) (a .key .satellite) (a .key .signal)) (a .entries .now) (c .before .before .before .before .before .before .before .before .if1 .left) (sym (c .before .before .before .before .before .before .before .fits-key .ensures) ∙ not-false _ (c .before .before .before .before .before .before .if2 .left)) _ (at-key (a .key .provider) (a .key .solution) (a .key .satellite) (a .key .signal) 0 0 _ (a .entries .now) _ (c .before .before .before .before .before .entry-of .ensures) (c .before .before .before .before .place .ensures)) (c .before .before .before .if3 .taken) _ _ (c .before .wide .ensures) (c .widened .ensures)
+
+returns-4 : tie.Need-returns-4
+returns-4 c = let a = c .before .before .before .before .before .before .args in not-found (key (a .key .provider) (a .key .solution) (a .key .satellite) (a .key .signal)) (a .entries .now) (c .before .before .before .before .before .if1 .left) (sym (c .before .before .before .before .fits-key .ensures) ∙ not-false _ (c .before .before .before .if2 .left)) _ (at-key (a .key .provider) (a .key .solution) (a .key .satellite) (a .key .signal) 0 0 _ (a .entries .now) _ (c .before .before .entry-of .ensures) (c .before .place .ensures)) (c .if3 .left)
+
+pub lookup-spec : {M : Type 1} → statement M
+lookup-spec =
+    tie.close
+    (tie.spec
+    returns
+    (λ c κs. search needs)
+    returns-2
+    entry-of-requires
+    (λ c κs. search needs)
+    (λ c. search needs)
+    (λ c. search needs)
+    (λ c. search needs)
+    (λ c κs. search needs)
+    (λ c. search needs)
+    (λ c κs. search needs)
+    returns-3
+    returns-4)

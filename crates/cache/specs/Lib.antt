@@ -1,0 +1,3 @@
+pub mod Cache
+pub mod Runs
+pub mod Answers
