@@ -6,10 +6,8 @@ use Prim.Native.Nat.{ℕ, _+_, _*_, _≤_}
 use native.Mathlib.Omega.{arith}
 use lib.ListN.{length}
 use Rattle.bits.specs.Told.{Told, Accepted, Refused, andThen}
-use Rattle.bits.specs.Outcome.{Outcome, outcome}
 use Rattle.bits.specs.Field.{field, Reading, reading, readBy}
 use Rattle.bits.proofs.ReadLaws.{reads-value, read-tells}
-use Rattle.messages.specs.Writer.{fine, unless}
 
 -- a step that was accepted came behind one that was
 pub then-accepted : {A B : Type 0} (t : Told A) (f : A → Told B) {b : B} → andThen t f ≡ Accepted b → (a : A) × (t ≡ Accepted a) × (f a ≡ Accepted b)
@@ -37,14 +35,3 @@ module _ {A B : Type 0} (meaning : ℕ → A) (s : List ℕ) (p w : ℕ) (f : Re
   -- a field that is there is read
   pub field-then : length s ≤ 1023 → 1 ≤ w → w ≤ 64 → p + w ≤ length s * 8 → andThen (readBy meaning s p w) f ≡ f (reading (meaning (field s p w)) (p + w))
   field-then few low high h = rw (reads-value meaning s p w few low high h)
-
--- a call that writes was accepted: it was not refused here, and accepted further on
-module _ (s : List ℕ) where
-  pub cond-accepted : (n : ℕ) (carried : List ℕ) (b : Bool) (w : Outcome ℕ (List ℕ)) {q : ℕ} → cond b (outcome (Refused n carried) s) w .answer ≡ Accepted q
-      → (b ≡ false) × (w .answer ≡ Accepted q)
-  cond-accepted n carried true w e = let z : _≡_ {A = ℕ} 0 1 = cc in absurd (omega arith)
-  cond-accepted n carried false w e = (refl, e)
-
-  pub unless-accepted : (t : Told Unit) (w : Outcome ℕ (List ℕ)) {q : ℕ} → unless s t w .answer ≡ Accepted q → (t ≡ fine) × (w .answer ≡ Accepted q)
-  unless-accepted (Accepted u) w e = (refl, e)
-  unless-accepted (Refused n carried) w e = let z : _≡_ {A = ℕ} 0 1 = cc in absurd (omega arith)

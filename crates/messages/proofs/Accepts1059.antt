@@ -18,8 +18,8 @@ use Rattle.messages.specs.Every.{Every}
 use Rattle.messages.specs.Records.{Rec1059, rec1059, satelliteOf, signalOf1059, biasOf1059, records1059}
 use Rattle.messages.specs.Signals1059.{isSignal1059}
 use Rattle.messages.specs.Writer.{fine, firstFault, keep}
-use Rattle.messages.specs.Write1059.{fault1059, crowded, present, fields1059, writeRecords1059, write1059, ofSatellite, biasFields, satelliteFields, satellitesFrom}
-use Rattle.messages.proofs.AcceptLaws.{then-accepted, not-refused, cond-accepted, unless-accepted}
+use Rattle.messages.specs.Write1059.{fault1059, crowded, present, fields1059, refusedRecords1059, refused1059, write1059, ofSatellite, biasFields, satelliteFields, satellitesFrom}
+use Rattle.messages.proofs.AcceptLaws.{then-accepted, not-refused}
 use Rattle.messages.proofs.WriterLaws.{run-put, run-accepted}
 use Rattle.messages.proofs.Signals1059Laws.{signal-fits}
 use Rattle.messages.proofs.Biases1059.{Own}
@@ -59,61 +59,62 @@ module _ (e : ℕ) where
 
 -- ---- the records
 
-module _ (e : ℕ) (s : List ℕ) (p : ℕ) (rs : List Rec1059) where
-  pub record Writes : Type 0 where
-    pub clean : Every (Writable e) rs
-    pub thin : crowded 0 64 rs ≡ fine
-    pub fewer : present 0 64 rs ≡ 64 → ⊥
-    pub within : p + total (fields1059 rs) ≤ length s * 8
+-- records of which nothing is refused
+pub record Fine (e : ℕ) (rs : List Rec1059) : Type 0 where
+  pub clean : Every (Writable e) rs
+  pub thin : crowded 0 64 rs ≡ fine
+  pub fewer : present 0 64 rs ≡ 64 → ⊥
 
-  pub records-written : Writes → writeRecords1059 e s p rs ≡ outcome (Accepted (p + total (fields1059 rs))) (putAll s p (fields1059 rs))
-  unfolding writeRecords1059
-  records-written w =
-      rw (clean-fine e 0 rs (w .clean), w .thin, ne-eqb (present 0 64 rs) 64 (w .fewer)) (run-put s p (fields1059 rs) (w .within))
+module _ (e : ℕ) (rs : List Rec1059) where
+  pub records-fine : Fine e rs → refusedRecords1059 e rs ≡ fine
+  unfolding refusedRecords1059
+  records-fine w = rw (clean-fine e 0 rs (w .clean), w .thin, ne-eqb (present 0 64 rs) 64 (w .fewer))
 
-  pub records-accepted : {q : ℕ} → writeRecords1059 e s p rs .answer ≡ Accepted q → Writes
-  unfolding writeRecords1059
-  records-accepted h =
-      let a = unless-accepted s (firstFault (fault1059 e) 0 rs) _ h in
-      let b = unless-accepted s (crowded 0 64 rs) _ (a .1) in
-      let c = unless-accepted s (cond (eqb (present 0 64 rs) 64) (tooMany 64) fine) _ (b .1) in
-      record {
-        clean = fine-clean e 0 rs (a .0);
-        thin = b .0;
-        fewer = eqb-false (present 0 64 rs) 64 (not-refused 6 (64 ∷ []) (eqb (present 0 64 rs) 64) fine (c .0) .0);
-        within = run-accepted s p (fields1059 rs) (c .1);
-      }
+  pub fine-records : refusedRecords1059 e rs ≡ fine → Fine e rs
+  unfolding refusedRecords1059
+  fine-records h =
+      let a = then-accepted (firstFault (fault1059 e) 0 rs) _ h in
+      let b = then-accepted (crowded 0 64 rs) _ (a .2) in
+      let c = not-refused 6 (64 ∷ []) (eqb (present 0 64 rs) 64) fine (b .2) in
+      record { clean = fine-clean e 0 rs (a .1); thin = b .1; fewer = eqb-false (present 0 64 rs) 64 (c .0) }
 
 -- ---- the call
 
 module _ (e : ℕ) (s : List ℕ) (p : ℕ) (sats gs : List ℕ) (zs : List ℤ) where
-  pub record Sized : Type 0 where
+  pub record Writes : Type 0 where
     pub few : length s ≤ 1023
     pub signals : length sats ≡ length gs
     pub biases : length sats ≡ length zs
     pub most : length sats ≤ 1953
+    pub records : Fine e (records1059 sats gs zs)
+    pub within : p + total (fields1059 (records1059 sats gs zs)) ≤ length s * 8
 
-  pub call-written : Sized → write1059 e s p sats gs zs ≡ writeRecords1059 e s p (records1059 sats gs zs)
-  unfolding write1059
-  call-written z =
-      rw (le-ltb 1023 (length s) (z .few))
-      (rw (eq-eqb (length sats) (length gs) (z .signals)) (rw (eq-eqb (length sats) (length zs) (z .biases)) (rw (le-ltb 1953 (length sats) (z .most)))))
+  nothing-refused : Writes → refused1059 e (length s) sats gs zs ≡ fine
+  unfolding refused1059
+  nothing-refused w =
+      rw (le-ltb 1023 (length s) (w .few), eq-eqb (length sats) (length gs) (w .signals), eq-eqb (length sats) (length zs) (w .biases), le-ltb 1953 (length sats) (w .most))
+      (records-fine e (records1059 sats gs zs) (w .records))
 
-  pub call-accepted : {q : ℕ} → write1059 e s p sats gs zs .answer ≡ Accepted q → Sized × (writeRecords1059 e s p (records1059 sats gs zs) .answer ≡ Accepted q)
+  pub call-written : Writes → write1059 e s p sats gs zs ≡ outcome (Accepted (p + total (fields1059 (records1059 sats gs zs)))) (putAll s p (fields1059 (records1059 sats gs zs)))
   unfolding write1059
+  call-written w = run-put (refused1059 e (length s) sats gs zs) s p (fields1059 (records1059 sats gs zs)) (nothing-refused w) (w .within)
+
+  pub call-accepted : {q : ℕ} → write1059 e s p sats gs zs .answer ≡ Accepted q → Writes
+  unfolding write1059 refused1059
   call-accepted h =
-      let a = cond-accepted s 9 [] (ltb 1023 (length s)) _ h in
-      let b = cond-accepted s 9 [] (not (eqb (length sats) (length gs))) _ (a .1) in
-      let c = cond-accepted s 9 [] (not (eqb (length sats) (length zs))) _ (b .1) in
-      let d = cond-accepted s 9 [] (ltb 1953 (length sats)) _ (c .1) in (
-        record {
-          few = ltb-false 1023 (length s) (a .0);
-          signals = eqb-true (length sats) (length gs) (not-false (eqb (length sats) (length gs)) (b .0));
-          biases = eqb-true (length sats) (length zs) (not-false (eqb (length sats) (length zs)) (c .0));
-          most = ltb-false 1953 (length sats) (d .0);
-        },
-        d .1,
-      )
+      let r = run-accepted (refused1059 e (length s) sats gs zs) s p (fields1059 (records1059 sats gs zs)) h in
+      let a = not-refused 9 [] (ltb 1023 (length s)) _ (r .0) in
+      let b = not-refused 9 [] (not (eqb (length sats) (length gs))) _ (a .1) in
+      let c = not-refused 9 [] (not (eqb (length sats) (length zs))) _ (b .1) in
+      let d = not-refused 9 [] (ltb 1953 (length sats)) _ (c .1) in
+      record {
+        few = ltb-false 1023 (length s) (a .0);
+        signals = eqb-true (length sats) (length gs) (not-false (eqb (length sats) (length gs)) (b .0));
+        biases = eqb-true (length sats) (length zs) (not-false (eqb (length sats) (length zs)) (c .0));
+        most = ltb-false 1953 (length sats) (d .0);
+        records = fine-records e (records1059 sats gs zs) (d .1);
+        within = r .1;
+      }
 
 -- ---- what is written fits its fields: the records of one satellite
 
@@ -164,6 +165,6 @@ present-le a (suc n) rs = go (eqb (length (ofSatellite a rs)) 0) (present-le (su
     go true h = omega arith
     go false h = omega arith
 
-pub fields-fit : (e : ℕ) (s : List ℕ) (p : ℕ) (rs : List Rec1059) → Writes e s p rs → Fit (fields1059 rs)
+pub fields-fit : (e : ℕ) (rs : List Rec1059) → Fine e rs → Fit (fields1059 rs)
 unfolding fields1059 Fit
-fields-fit e s p rs w = (omega (arith, present-le 0 64 rs, w .fewer), fit-satellites e 64 0 rs (omega arith) (w .thin) (w .clean))
+fields-fit e rs w = (omega (arith, present-le 0 64 rs, w .fewer), fit-satellites e 64 0 rs (omega arith) (w .thin) (w .clean))

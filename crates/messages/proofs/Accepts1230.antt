@@ -11,65 +11,57 @@ use Rattle.bits.specs.Told.{Accepted}
 use Rattle.bits.specs.Outcome.{outcome}
 use Rattle.bits.specs.Fields.{total, putAll}
 use Rattle.messages.specs.Every.{Every}
-use Rattle.messages.specs.Records.{Rec1230, rec1230, signalOf1230, records1230}
+use Rattle.messages.specs.Records.{records1230}
 use Rattle.messages.specs.Read1230.{maskSignals}
-use Rattle.messages.specs.Writer.{fine, firstFault}
-use Rattle.messages.specs.Write1230.{isIn, fault1230, firstRepeat, fields1230, writeRecords1230, write1230}
-use Rattle.messages.proofs.AcceptLaws.{cond-accepted, unless-accepted}
+use Rattle.messages.specs.Writer.{fine, firstFault, firstRepeat}
+use Rattle.messages.specs.Write1230.{isIn, fault1230, fields1230, refused1230, write1230}
+use Rattle.messages.proofs.AcceptLaws.{then-accepted, not-refused}
 use Rattle.messages.proofs.WriterLaws.{run-put, run-accepted}
 
 -- ---- faults
 
--- a record that is not refused
-abbrev pub Known : Rec1230 → Type 0
-Known r = isIn (signalOf1230 r) maskSignals ≡ true
+-- a signal that is not refused
+abbrev pub InMask : ℕ → Type 0
+InMask g = isIn g maskSignals ≡ true
 
-pub known-fine : (i : ℕ) (rs : List Rec1230) → Every Known rs → firstFault fault1230 i rs ≡ fine
+pub masked-fine : (i : ℕ) (gs : List ℕ) → Every InMask gs → firstFault fault1230 i gs ≡ fine
 unfolding firstFault fault1230
-known-fine i [] w = refl
-known-fine i (rec1230 g z ∷ rs) w = rw (w .0) (known-fine (suc i) rs (w .1))
-
--- ---- the records
-
-module _ (s : List ℕ) (p : ℕ) (rs : List Rec1230) where
-  pub record Writes : Type 0 where
-    pub clean : firstFault fault1230 0 rs ≡ fine
-    pub single : firstRepeat 0 [] rs ≡ fine
-    pub within : p + total (fields1230 rs) ≤ length s * 8
-
-  pub records-written : Writes → writeRecords1230 s p rs ≡ outcome (Accepted (p + total (fields1230 rs))) (putAll s p (fields1230 rs))
-  unfolding writeRecords1230
-  records-written w = rw (w .clean, w .single) (run-put s p (fields1230 rs) (w .within))
-
-  pub records-accepted : {q : ℕ} → writeRecords1230 s p rs .answer ≡ Accepted q → Writes
-  unfolding writeRecords1230
-  records-accepted h =
-      let a = unless-accepted s (firstFault fault1230 0 rs) _ h in
-      let b = unless-accepted s (firstRepeat 0 [] rs) _ (a .1) in
-      record { clean = a .0; single = b .0; within = run-accepted s p (fields1230 rs) (b .1) }
+masked-fine i [] w = refl
+masked-fine i (g ∷ gs) w = rw (w .0) (masked-fine (suc i) gs (w .1))
 
 -- ---- the call
 
 module _ (s : List ℕ) (p : ℕ) (gs : List ℕ) (zs : List ℤ) where
-  pub record Sized : Type 0 where
+  pub record Writes : Type 0 where
     pub few : length s ≤ 1023
     pub biases : length gs ≡ length zs
     pub most : length gs ≤ 4
+    pub clean : firstFault fault1230 0 gs ≡ fine
+    pub single : firstRepeat eqb 0 [] gs ≡ fine
+    pub within : p + total (fields1230 (records1230 gs zs)) ≤ length s * 8
 
-  pub call-written : Sized → write1230 s p gs zs ≡ writeRecords1230 s p (records1230 gs zs)
-  unfolding write1230
-  call-written z = rw (le-ltb 1023 (length s) (z .few)) (rw (eq-eqb (length gs) (length zs) (z .biases)) (rw (le-ltb 4 (length gs) (z .most))))
+  nothing-refused : Writes → refused1230 (length s) gs zs ≡ fine
+  unfolding refused1230
+  nothing-refused w =
+      rw (le-ltb 1023 (length s) (w .few), eq-eqb (length gs) (length zs) (w .biases), le-ltb 4 (length gs) (w .most), w .clean) (w .single)
 
-  pub call-accepted : {q : ℕ} → write1230 s p gs zs .answer ≡ Accepted q → Sized × (writeRecords1230 s p (records1230 gs zs) .answer ≡ Accepted q)
+  pub call-written : Writes → write1230 s p gs zs ≡ outcome (Accepted (p + total (fields1230 (records1230 gs zs)))) (putAll s p (fields1230 (records1230 gs zs)))
   unfolding write1230
+  call-written w = run-put (refused1230 (length s) gs zs) s p (fields1230 (records1230 gs zs)) (nothing-refused w) (w .within)
+
+  pub call-accepted : {q : ℕ} → write1230 s p gs zs .answer ≡ Accepted q → Writes
+  unfolding write1230 refused1230
   call-accepted h =
-      let a = cond-accepted s 9 [] (ltb 1023 (length s)) _ h in
-      let b = cond-accepted s 9 [] (not (eqb (length gs) (length zs))) _ (a .1) in
-      let c = cond-accepted s 9 [] (ltb 4 (length gs)) _ (b .1) in (
-        record {
-          few = ltb-false 1023 (length s) (a .0);
-          biases = eqb-true (length gs) (length zs) (not-false (eqb (length gs) (length zs)) (b .0));
-          most = ltb-false 4 (length gs) (c .0);
-        },
-        c .1,
-      )
+      let r = run-accepted (refused1230 (length s) gs zs) s p (fields1230 (records1230 gs zs)) h in
+      let a = not-refused 9 [] (ltb 1023 (length s)) _ (r .0) in
+      let b = not-refused 9 [] (not (eqb (length gs) (length zs))) _ (a .1) in
+      let c = not-refused 9 [] (ltb 4 (length gs)) _ (b .1) in
+      let d = then-accepted (firstFault fault1230 0 gs) _ (c .1) in
+      record {
+        few = ltb-false 1023 (length s) (a .0);
+        biases = eqb-true (length gs) (length zs) (not-false (eqb (length gs) (length zs)) (b .0));
+        most = ltb-false 4 (length gs) (c .0);
+        clean = d .1;
+        single = d .2;
+        within = r .1;
+      }

@@ -20,9 +20,9 @@ use Rattle.messages.specs.Write1059.{write1059}
 use Rattle.messages.specs.InOrder.{inOrder1059}
 use Rattle.messages.specs.WrittenBack.{WrittenBack}
 use Rattle.messages.proofs.AcceptLaws.{not-refused, then-accepted}
-use Rattle.messages.proofs.Accepts1059.{call-accepted, records-accepted}
+use Rattle.messages.proofs.Accepts1059.{call-accepted}
 use Rattle.messages.proofs.InOrderLaws.{in-order-1059, length-records}
-use Rattle.messages.proofs.KeepLaws.{keeps-1059}
+use Rattle.messages.proofs.KeepLaws.{leaves-1059}
 use Rattle.messages.proofs.ReadBack1059.{block-again-1059}
 use Rattle.messages.proofs.Satellites1059Laws.{block-by-satellite}
 use Rattle.messages.proofs.SameBits1059.{block-back-1059}
@@ -34,12 +34,11 @@ pub reads-back-1059 : (e : ℕ) (s : List ℕ) (p : ℕ) (sats gs : List ℕ) (z
     → read1059 (write1059 e s p sats gs zs .areas) p a b c ≡ left1059 a b c (Accepted (reading (inOrder1059 (records1059 sats gs zs)) q))
 unfolding read1059
 reads-back-1059 e s p sats gs zs h a b c i j room =
-    let k = call-accepted e s p sats gs zs h in
+    let w = call-accepted e s p sats gs zs h in
     let rs = records1059 sats gs zs in
-    let w = records-accepted e s p rs (k .1) in
-    let n = in-order-1059 e rs (w .clean) in
-    let l = length-records sats gs zs (k .0 .signals) (k .0 .biases) in
-    let few : length (write1059 e s p sats gs zs .areas) ≤ 1023 = omega (arith, keeps-1059 s p e sats gs zs .long, k .0 .few) in
+    let n = in-order-1059 e rs (w .records .clean) in
+    let l = length-records sats gs zs (w .signals) (w .biases) in
+    let few : length (write1059 e s p sats gs zs .areas) ≤ 1023 = omega (arith, leaves-1059 s p e sats gs zs .long, w .few) in
     let fits : length (inOrder1059 rs) ≤ length a = omega (arith, n, l) in
     rw (le-ltb 1023 _ few, eq-eqb (length a) (length b) i, eq-eqb (length a) (length c) j, block-again-1059 e s p sats gs zs h, le-ltb _ _ fits)
 

@@ -20,11 +20,10 @@ use Rattle.messages.specs.Write1230.{fields1230, write1230}
 use Rattle.messages.specs.InOrder.{inOrder1230}
 use Rattle.messages.specs.WrittenBack.{WrittenBack}
 use Rattle.messages.proofs.AcceptLaws.{not-refused, then-accepted}
-use Rattle.messages.proofs.Accepts1230.{call-accepted, call-written, records-accepted, records-written}
+use Rattle.messages.proofs.Accepts1230.{call-accepted, call-written}
 use Rattle.messages.proofs.ExtentLaws.{block1230-extends}
 use Rattle.messages.proofs.Fields1230Laws.{bits-is}
-use Rattle.messages.proofs.Signals1230Laws.{fault-by-signals}
-use Rattle.messages.proofs.KeepLaws.{keeps-1230}
+use Rattle.messages.proofs.KeepLaws.{leaves-1230}
 use Rattle.messages.proofs.ReadBack1230.{block-again-1230}
 use Rattle.messages.proofs.SameBits1230.{block-back-1230}
 
@@ -35,13 +34,12 @@ pub reads-back-1230 : (s : List ℕ) (p : ℕ) (gs : List ℕ) (zs : List ℤ) {
     → read1230 (write1230 s p gs zs .areas) p b c ≡ left1230 b c (Accepted (reading (inOrder1230 (records1230 gs zs)) q))
 unfolding read1230
 reads-back-1230 s p gs zs {q} raw h b c i room =
-    let k = call-accepted s p gs zs h in
+    let w = call-accepted s p gs zs h in
     let rs = records1230 gs zs in
-    let w = records-accepted s p rs (k .1) in
     let again = block-again-1230 s p gs zs raw h in
-    let end : p + total (fields1230 rs) ≡ q = cc (h, call-written s p gs zs (k .0), records-written s p rs w) in
-    let n = bits-is gs zs (k .0 .biases) (sym (fault-by-signals 0 gs zs (k .0 .biases)) ∙ w .clean) in
-    let few : length (write1230 s p gs zs .areas) ≤ 1023 = omega (arith, keeps-1230 s p gs zs .long, k .0 .few) in
+    let end : p + total (fields1230 rs) ≡ q = cc (h, call-written s p gs zs w) in
+    let n = bits-is gs zs (w .biases) (w .clean) in
+    let few : length (write1230 s p gs zs .areas) ≤ 1023 = omega (arith, leaves-1230 s p gs zs .long, w .few) in
     let fits : length (inOrder1230 rs) ≤ length b = omega (arith, block1230-extends _ p again .end, end, n) in
     rw (le-ltb 1023 _ few, eq-eqb (length b) (length c) i, again, le-ltb _ _ fits)
 

@@ -1,5 +1,5 @@
 -- Laws of what holds of each element. Assumes nothing.
-use mathlib.Core.List.{List, [], _∷_, _++_, map}
+use mathlib.Core.List.{List, [], _∷_, _++_}
 use Rattle.messages.specs.Every.{Every}
 
 module _ {A : Type 0} (P : A → Type 0) where
@@ -14,8 +14,3 @@ module _ {A : Type 0} (P : A → Type 0) where
   pub every-true : ((x : A) → P x) → (xs : List A) → Every P xs
   every-true f [] = tt
   every-true f (x ∷ xs) = (f x, every-true f xs)
-
--- what holds of each part holds of each element by that part
-pub every-unmap : {A B : Type 0} (P : B → Type 0) (part : A → B) (xs : List A) → Every P (map part xs) → Every (λ x. P (part x)) xs
-every-unmap P part [] e = tt
-every-unmap P part (x ∷ xs) e = (e .0, every-unmap P part xs (e .1))

@@ -15,9 +15,8 @@ use Rattle.bits.specs.Fields.{bits, total}
 use Rattle.bits.proofs.FieldsLaws.{total-append}
 use Rattle.messages.specs.Records.{Rec1230, rec1230, records1230}
 use Rattle.messages.specs.Read1230.{maskSignals}
-use Rattle.messages.specs.Writer.{fine, keep, firstFault}
-use Rattle.messages.specs.Write1230.{isIn, ofSignal, maskOf, biasFields16, inMaskOrder, fields1230}
-use Rattle.messages.specs.WriteSteps1230.{unknownAt}
+use Rattle.messages.specs.Writer.{fine, keep, firstFault, isAmong}
+use Rattle.messages.specs.Write1230.{isIn, fault1230, ofSignal, maskOf, biasFields16, inMaskOrder, fields1230}
 use Rattle.messages.proofs.RecordLaws.{from1230, next1230, end1230}
 use Rattle.messages.proofs.Signals1230Laws.{known-first, one-of-four}
 
@@ -43,7 +42,7 @@ bias-none g gs zs i h = ap (λ (rs : List Rec1230). biasFields16 (ofSignal g rs)
 
 -- a signal has no bias exactly if it is not in the list
 none-of : (g : ℕ) (gs : List ℕ) (zs : List ℤ) → length gs ≡ length zs → eqb (length (ofSignal g (records1230 gs zs))) 0 ≡ not (isIn g gs)
-unfolding records1230 ofSignal isIn
+unfolding records1230 ofSignal isAmong
 none-of g [] zs l = refl
 none-of g (h ∷ gs) [] l = absurd (omega arith)
 none-of g (h ∷ gs) (z ∷ zs) l = go (eqb h g) (none-of g gs zs (omega arith))
@@ -97,16 +96,16 @@ one-more g z rs e =
     (λ x. ⊎-elim (λ p. rw p (omega arith)) (λ y. ⊎-elim (λ p. rw p (omega arith)) (λ p. rw p (omega arith)) y) x)
     (one-of-four g e)
 
-all-four : (k : ℕ) (gs : List ℕ) (zs : List ℤ) → length gs ≡ length zs → firstFault unknownAt k gs ≡ fine → four (records1230 gs zs) ≡ length gs
+all-four : (k : ℕ) (gs : List ℕ) (zs : List ℤ) → length gs ≡ length zs → firstFault fault1230 k gs ≡ fine → four (records1230 gs zs) ≡ length gs
 unfolding records1230 firstFault four ofSignal
 all-four k [] zs l e = refl
 all-four k (g ∷ gs) [] l e = absurd (omega arith)
 all-four k (g ∷ gs) (z ∷ zs) l e =
-    let f = known-first k g (firstFault unknownAt (suc k) gs) e in
+    let f = known-first k g (firstFault fault1230 (suc k) gs) e in
     omega (arith, one-more g z (records1230 gs zs) (f .0), all-four (suc k) gs zs (omega arith) (f .1))
 
 -- 4 bits of the mask, and 16 of each record
-pub bits-is : (gs : List ℕ) (zs : List ℤ) → length gs ≡ length zs → firstFault unknownAt 0 gs ≡ fine → total (fields1230 (records1230 gs zs)) ≡ 4 + length gs * 16
+pub bits-is : (gs : List ℕ) (zs : List ℤ) → length gs ≡ length zs → firstFault fault1230 0 gs ≡ fine → total (fields1230 (records1230 gs zs)) ≡ 4 + length gs * 16
 unfolding total fields1230 inMaskOrder four
 bits-is gs zs l e =
     let rs = records1230 gs zs in

@@ -22,7 +22,7 @@ use Rattle.messages.specs.InOrder.{recordsFrom, inOrder1059}
 use Rattle.messages.proofs.AcceptLaws.{field-then}
 use Rattle.messages.proofs.ManyLaws.{many-none, many-more}
 use Rattle.messages.proofs.Biases1059.{Own, biases-read}
-use Rattle.messages.proofs.Accepts1059.{Writable, records-written, records-accepted, call-written, call-accepted, of-writable, fields-fit}
+use Rattle.messages.proofs.Accepts1059.{Writable, call-written, call-accepted, of-writable, fields-fit}
 use Rattle.messages.proofs.WriterLaws.{reads-run}
 
 module _ (t : List ℕ) (few : length t ≤ 1023) where
@@ -77,8 +77,7 @@ module _ (t : List ℕ) (few : length t ≤ 1023) where
 pub block-again-1059 : (e : ℕ) (s : List ℕ) (p : ℕ) (sats gs : List ℕ) (zs : List ℤ) {q : ℕ} → write1059 e s p sats gs zs .answer ≡ Accepted q
     → block1059 (write1059 e s p sats gs zs .areas) p ≡ Accepted (reading (inOrder1059 (records1059 sats gs zs)) q)
 block-again-1059 e s p sats gs zs h =
-    let c = call-accepted e s p sats gs zs h in
+    let w = call-accepted e s p sats gs zs h in
     let rs = records1059 sats gs zs in
-    let w = records-accepted e s p rs (c .1) in
-    reads-run (λ t. block1059 t p) s p (fields1059 rs) (call-written e s p sats gs zs (c .0) ∙ records-written e s p rs w) h (c .0 .few) (w .within) (fields-fit e s p rs w)
-    (λ t few stands l. block-reads t few e rs (w .clean) p stands l)
+    reads-run (λ t. block1059 t p) s p (fields1059 rs) (call-written e s p sats gs zs w) h (w .few) (w .within) (fields-fit e rs (w .records))
+    (λ t few stands l. block-reads t few e rs (w .records .clean) p stands l)

@@ -22,7 +22,7 @@ use Rattle.messages.proofs.Mask1230Laws.{mask-lt, order-signals, order-
 use Rattle.messages.proofs.WriterLaws.{reads-run}
 use Rattle.messages.proofs.RepeatLaws.{once}
 use Rattle.messages.proofs.I16Laws.{all-fit}
-use Rattle.messages.proofs.Accepts1230.{records-written, records-accepted, call-written, call-accepted}
+use Rattle.messages.proofs.Accepts1230.{call-written, call-accepted}
 
 raw-fits : (gs : List ℕ) (zs : List ℤ) → OfI16 zs → Every Fits (records1230 gs zs)
 unfolding records1230
@@ -57,9 +57,8 @@ module _ (rs : List Rec1230) (fits : Every Fits rs) where
 pub block-again-1230 : (s : List ℕ) (p : ℕ) (gs : List ℕ) (zs : List ℤ) {q : ℕ} → OfI16 zs → write1230 s p gs zs .answer ≡ Accepted q
     → block1230 (write1230 s p gs zs .areas) p ≡ Accepted (reading (inOrder1230 (records1230 gs zs)) q)
 block-again-1230 s p gs zs raw h =
-    let c = call-accepted s p gs zs h in
+    let w = call-accepted s p gs zs h in
     let rs = records1230 gs zs in
     let f = raw-fits gs zs raw in
-    let w = records-accepted s p rs (c .1) in
-    reads-run (λ t. block1230 t p) s p (fields1230 rs) (call-written s p gs zs (c .0) ∙ records-written s p rs w) h (c .0 .few) (w .within) (fields-fit rs f)
-    (λ t few stands l. block-reads rs f t p few (λ g. once g 0 [] rs (w .single)) stands l)
+    reads-run (λ t. block1230 t p) s p (fields1230 rs) (call-written s p gs zs w) h (w .few) (w .within) (fields-fit rs f)
+    (λ t few stands l. block-reads rs f t p few (λ g. once g 0 [] gs zs (w .single)) stands l)

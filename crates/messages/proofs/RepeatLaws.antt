@@ -1,58 +1,91 @@
--- Signals of message 1230 that repeat. Assumes nothing.
-use mathlib.Core.Path.{_≡_, refl, ap}
+-- The first that repeats an earlier one, along a list; and signals of message 1230 that do not repeat. Assumes nothing.
+use mathlib.Core.Path.{_≡_, refl, ap, _∙_}
 use mathlib.Core.Bool.{Bool, true, false, cond}
-use mathlib.Core.List.{List, [], _∷_, map}
-use Prim.Native.Nat.{ℕ, suc, _≤_}
+use mathlib.Core.List.{List, [], _∷_}
+use Prim.Native.Nat.{ℕ, zero, suc, _+_, _≤_, _<_}
+use native.Mathlib.Numerals.{add-one}
 use native.Mathlib.Omega.{arith}
 use borrow.Author.Tests.{ne-eqb, eqb-true}
-use lib.ListN.{length}
+use lib.ListN.{length, drop, getD, drop-of-length-le}
+use lib.Seq.{drop-cons}
 use lib.IntN.{ℤ}
 use lib.Dec.{eqb}
+use Rattle.bits.specs.Told.{duplicate}
 use Rattle.messages.specs.Every.{Every}
-use Rattle.messages.specs.Records.{Rec1230, rec1230, signalOf1230}
-use Rattle.messages.specs.Writer.{fine, keep}
-use Rattle.messages.specs.Write1230.{isIn, firstRepeat, ofSignal}
+use Rattle.messages.specs.Records.{records1230}
+use Rattle.messages.specs.Writer.{fine, isAmong, firstRepeat, keep}
+use Rattle.messages.specs.Write1230.{isIn, ofSignal}
 use Rattle.messages.proofs.AcceptLaws.{not-refused}
 use Rattle.messages.proofs.Mask1230Laws.{Apart, Different}
 
+-- ---- along a list, one by one
+
+module _ {K : Type 0} (same : K → K → Bool) (none : K) (ks : List K) where
+  -- the first i of them, the last of these first
+  abbrev pub seenAt : ℕ → List K
+  seenAt zero = []
+  seenAt (suc i) = getD ks i none ∷ seenAt i
+
+  module _ (i : ℕ) where
+    repeat-cons : i < length ks → firstRepeat same i (seenAt i) (drop i ks)
+        ≡ cond (isAmong same (getD ks i none) (seenAt i)) (duplicate i) (firstRepeat same (suc i) (seenAt (suc i)) (drop (suc i) ks))
+    unfolding firstRepeat
+    repeat-cons h = ap (firstRepeat same i (seenAt i)) (drop-cons ks i none h)
+
+    pub repeat-here : i < length ks → isAmong same (getD ks i none) (seenAt i) ≡ true → firstRepeat same i (seenAt i) (drop i ks) ≡ duplicate i
+    repeat-here h e = rw (repeat-cons h, e)
+
+    pub no-repeat-here : i < length ks → isAmong same (getD ks i none) (seenAt i) ≡ false
+        → firstRepeat same i (seenAt i) (drop i ks) ≡ firstRepeat same (i + 1) (seenAt (i + 1)) (drop (i + 1) ks)
+    no-repeat-here h e = rw (add-one i, repeat-cons h, e)
+
+    pub no-more : length ks ≤ i → firstRepeat same i (seenAt i) (drop i ks) ≡ fine
+    unfolding firstRepeat
+    no-more h = ap (firstRepeat same i (seenAt i)) (drop-of-length-le ks h)
+
+-- what no repeat tells of the first and of the rest
+pub none-first : {K : Type 0} (same : K → K → Bool) (i : ℕ) (k : K) (seen ks : List K) → firstRepeat same i seen (k ∷ ks) ≡ fine
+    → (isAmong same k seen ≡ false) × (firstRepeat same (suc i) (k ∷ seen) ks ≡ fine)
+unfolding firstRepeat
+none-first same i k seen ks = not-refused 7 (i ∷ []) (isAmong same k seen) (firstRepeat same (suc i) (k ∷ seen) ks)
+
+-- ---- signals of message 1230
+
 -- different signals do not repeat
 further : (g : ℕ) (seen hs : List ℕ) → Every (λ h. isIn h seen ≡ false) hs → Apart g hs → Every (λ h. isIn h (g ∷ seen) ≡ false) hs
-unfolding isIn
+unfolding isAmong
 further g seen [] n a = tt
 further g seen (h ∷ hs) n a = (rw (ne-eqb g h (a .0)) (n .0), further g seen hs (n .1) (a .1))
 
-pub no-repeat : (i : ℕ) (seen : List ℕ) (rs : List Rec1230) → Every (λ g. isIn g seen ≡ false) (map signalOf1230 rs) → Different (map signalOf1230 rs)
-    → firstRepeat i seen rs ≡ fine
+pub no-repeat : (i : ℕ) (seen gs : List ℕ) → Every (λ g. isIn g seen ≡ false) gs → Different gs → firstRepeat eqb i seen gs ≡ fine
 unfolding firstRepeat
 no-repeat i seen [] n d = refl
-no-repeat i seen (rec1230 g z ∷ rs) n d = rw (n .0) (no-repeat (suc i) (g ∷ seen) rs (further g seen (map signalOf1230 rs) (n .1) (d .0)) (d .1))
-
--- what no repeat tells of the first record and of the rest
-next : (i g : ℕ) (z : ℤ) (seen : List ℕ) (rs : List Rec1230) → firstRepeat i seen (rec1230 g z ∷ rs) ≡ fine
-    → (isIn g seen ≡ false) × (firstRepeat (suc i) (g ∷ seen) rs ≡ fine)
-unfolding firstRepeat
-next i g z seen rs = not-refused 7 (i ∷ []) (isIn g seen) (firstRepeat (suc i) (g ∷ seen) rs)
+no-repeat i seen (g ∷ gs) n d = rw (n .0) (no-repeat (suc i) (g ∷ seen) gs (further g seen gs (n .1) (d .0)) (d .1))
 
 -- where no signal repeats, none has two biases
 module _ (g : ℕ) where
-  none-again : (i : ℕ) (seen : List ℕ) (rs : List Rec1230) → firstRepeat i seen rs ≡ fine → isIn g seen ≡ true → ofSignal g rs ≡ []
-  unfolding ofSignal isIn
-  none-again i seen [] f h = refl
-  none-again i seen (rec1230 k z ∷ rs) f h =
-      let n = next i k z seen rs f in
-      go (eqb k g) refl (n .0) (none-again (suc i) (k ∷ seen) rs (n .1))
+  none-again : (i : ℕ) (seen gs : List ℕ) (zs : List ℤ) → firstRepeat eqb i seen gs ≡ fine → isIn g seen ≡ true → ofSignal g (records1230 gs zs) ≡ []
+  unfolding ofSignal isAmong records1230
+  none-again i seen [] zs f h = refl
+  none-again i seen (k ∷ gs) [] f h = refl
+  none-again i seen (k ∷ gs) (z ∷ zs) f h =
+      let n = none-first eqb i k seen gs f in
+      go (eqb k g) refl (n .0) (none-again (suc i) (k ∷ seen) gs zs (n .1))
     where
-      go : (b : Bool) → eqb k g ≡ b → isIn k seen ≡ false → (cond b true (isIn g seen) ≡ true → ofSignal g rs ≡ []) → keep b z (ofSignal g rs) ≡ []
+      go : (b : Bool) → eqb k g ≡ b → isIn k seen ≡ false → (cond b true (isIn g seen) ≡ true → ofSignal g (records1230 gs zs) ≡ [])
+          → keep b z (ofSignal g (records1230 gs zs)) ≡ []
       go true q n ih = let e = ap (λ (x : ℕ). isIn x seen) (eqb-true k g q) in let x : _≡_ {A = ℕ} 0 1 = cc in absurd (omega arith)
       go false q n ih = ih h
 
-  pub once : (i : ℕ) (seen : List ℕ) (rs : List Rec1230) → firstRepeat i seen rs ≡ fine → length (ofSignal g rs) ≤ 1
-  unfolding ofSignal isIn
-  once i seen [] f = omega arith
-  once i seen (rec1230 k z ∷ rs) f =
-      let n = next i k z seen rs f in
-      go (eqb k g) (none-again (suc i) (k ∷ seen) rs (n .1)) (once (suc i) (k ∷ seen) rs (n .1))
+  pub once : (i : ℕ) (seen gs : List ℕ) (zs : List ℤ) → firstRepeat eqb i seen gs ≡ fine → length (ofSignal g (records1230 gs zs)) ≤ 1
+  unfolding ofSignal isAmong records1230
+  once i seen [] zs f = omega arith
+  once i seen (k ∷ gs) [] f = omega arith
+  once i seen (k ∷ gs) (z ∷ zs) f =
+      let n = none-first eqb i k seen gs f in
+      go (eqb k g) (none-again (suc i) (k ∷ seen) gs zs (n .1)) (once (suc i) (k ∷ seen) gs zs (n .1))
     where
-      go : (b : Bool) → (cond b true (isIn g seen) ≡ true → ofSignal g rs ≡ []) → length (ofSignal g rs) ≤ 1 → length (keep b z (ofSignal g rs)) ≤ 1
+      go : (b : Bool) → (cond b true (isIn g seen) ≡ true → ofSignal g (records1230 gs zs) ≡ []) → length (ofSignal g (records1230 gs zs)) ≤ 1
+          → length (keep b z (ofSignal g (records1230 gs zs))) ≤ 1
       go true n ih = omega (arith, ap length (n refl))
       go false n ih = ih

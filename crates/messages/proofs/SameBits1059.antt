@@ -6,12 +6,13 @@ use Prim.Native.Nat.{ℕ, _+_, _-_, _*_, _≤_}
 use native.Mathlib.Omega.{arith}
 use lib.ListN.{length, length-map}
 use Rattle.bits.specs.Told.{Accepted}
+use Rattle.bits.specs.Outcome.{outcome}
 use Rattle.bits.specs.Field.{reading}
-use Rattle.bits.specs.Fields.{Field, bits, total, Holds}
+use Rattle.bits.specs.Fields.{Field, bits, total, putAll, Holds}
 use Rattle.messages.specs.Every.{Every}
 use Rattle.messages.specs.Records.{Rec1059, rec1059, satelliteOf, signalOf1059, biasOf1059, records1059}
 use Rattle.messages.specs.Signals1059.{isSignal1059}
-use Rattle.messages.specs.Write1059.{fields1059, writeRecords1059, write1059}
+use Rattle.messages.specs.Write1059.{fields1059, write1059}
 use Rattle.messages.specs.Satellites1059.{Sat, satellites1059, recordsOf, Regular}
 use Rattle.messages.specs.WrittenBack.{WrittenBack}
 use Rattle.messages.proofs.EveryLaws.{every-join, every-split}
@@ -19,7 +20,7 @@ use Rattle.messages.proofs.Biases1059.{Own}
 use Rattle.messages.proofs.Satellites1059Laws.{Sound, satFields, block-stands}
 use Rattle.messages.proofs.ExtentLaws.{taken}
 use Rattle.messages.proofs.AscendingLaws.{laid}
-use Rattle.messages.proofs.Accepts1059.{Writable, Writes, Sized, records-written, call-written}
+use Rattle.messages.proofs.Accepts1059.{Writable, Writes, call-written}
 use Rattle.messages.proofs.StandLaws.{put-back}
 
 -- the columns of records are records again
@@ -56,19 +57,14 @@ module _ (e : ℕ) where
       let f : fields1059 rs ≡ bits 6 (length xs) ∷ satFields xs = ap₂ (λ (n : ℕ) (fs : List Field). bits 6 n ∷ fs) (l .count) (l .fields) in
       let long : total (fields1059 rs) ≡ q - p = ap total f ∙ omega (arith, b .ends) in
       let stands : Holds s p (fields1059 rs) = rw f (b .holds) in
-      let w : Writes e t r rs =
-      record {
-        clean = all-writable xs (b .sound) (regular .assigned);
-        thin = l .thin;
-        fewer = λ z. omega (arith, l .count, b .fewer);
-        within = omega (arith, long);
-      } in
-      let sized : Sized e t r (map satelliteOf rs) (map signalOf1059 rs) (map biasOf1059 rs) =
+      let w : Writes e t r (map satelliteOf rs) (map signalOf1059 rs) (map biasOf1059 rs) =
       record {
         few = few;
         signals = length-map rs satelliteOf ∙ sym (length-map rs signalOf1059);
         biases = length-map rs satelliteOf ∙ sym (length-map rs biasOf1059);
         most = omega (arith, length-map rs satelliteOf, taken xs (b .sound) .most, b .fewer);
+        records = rw (columns1059 rs) (record { clean = all-writable xs (b .sound) (regular .assigned); thin = l .thin; fewer = λ z. omega (arith, l .count, b .fewer) });
+        within = rw (columns1059 rs) (omega (arith, long));
       } in
       put-back s p q t r (fields1059 rs) stands long (omega (arith, long))
-      (call-written e t r (map satelliteOf rs) (map signalOf1059 rs) (map biasOf1059 rs) sized ∙ ap (writeRecords1059 e t r) (columns1059 rs) ∙ records-written e t r rs w)
+      (call-written e t r (map satelliteOf rs) (map signalOf1059 rs) (map biasOf1059 rs) w ∙ ap (λ (x : List Rec1059). outcome (Accepted (r + total (fields1059 x))) (putAll t r (fields1059 x))) (columns1059 rs))

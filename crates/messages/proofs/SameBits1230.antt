@@ -7,21 +7,23 @@ use native.Mathlib.Nat.{mod-eq-of-lt}
 use native.Mathlib.Omega.{arith}
 use lib.ListN.{length, length-map}
 use Rattle.bits.specs.Told.{Accepted}
+use Rattle.bits.specs.Outcome.{outcome}
 use Rattle.bits.specs.Field.{field, reading}
-use Rattle.bits.specs.Fields.{Field, bits, total, Holds}
+use Rattle.bits.specs.Fields.{Field, bits, total, putAll, Holds}
 use Rattle.bits.proofs.FieldLaws.{field-lt}
 use Rattle.messages.specs.Every.{Every}
 use Rattle.messages.specs.Records.{Rec1230, rec1230, signalOf1230, biasOf1230, records1230}
 use Rattle.messages.specs.Read1230.{maskSignals, masked, block1230}
-use Rattle.messages.specs.Write1230.{isIn, biasFields16, fields1230, writeRecords1230, write1230}
+use Rattle.messages.specs.Write1230.{isIn, biasFields16, fields1230, write1230}
+use Rattle.messages.specs.Writer.{isAmong}
 use Rattle.messages.specs.WrittenBack.{WrittenBack}
-use Rattle.messages.proofs.EveryLaws.{every-true, every-unmap}
+use Rattle.messages.proofs.EveryLaws.{every-true}
 use Rattle.messages.proofs.AcceptLaws.{field-accepted}
 use Rattle.messages.proofs.Biases1230.{biases-stand}
 use Rattle.messages.proofs.Mask1230Laws.{Different, every-masked, masked-different, named}
 use Rattle.messages.proofs.ExtentLaws.{suffices-1230}
 use Rattle.messages.proofs.RepeatLaws.{no-repeat}
-use Rattle.messages.proofs.Accepts1230.{Known, Writes, Sized, known-fine, records-written, call-written}
+use Rattle.messages.proofs.Accepts1230.{InMask, Writes, masked-fine, call-written}
 use Rattle.messages.proofs.StandLaws.{put-back}
 
 -- the columns of records are records again
@@ -33,12 +35,12 @@ columns1230 (rec1230 g z ∷ rs) = ap (λ (l : List Rec1230). rec1230 g z ∷ l)
 different : Different maskSignals
 different = omega arith
 
-in-mask : Every (λ g. isIn g maskSignals ≡ true) maskSignals
-unfolding isIn
+in-mask : Every InMask maskSignals
+unfolding isAmong
 in-mask = (refl, (refl, (refl, (refl, tt))))
 
 none-seen : (g : ℕ) → isIn g [] ≡ false
-unfolding isIn
+unfolding isAmong
 none-seen g = refl
 
 -- a block that stands in s is written into any data that has room for it
@@ -55,18 +57,14 @@ block-back-1230 s p {q} rs h t r few room =
     let long : total (fields1230 rs) ≡ q - p = ap total f ∙ omega (arith, b .ends) in
     let stands : Holds s p (fields1230 rs) = subst (Holds s p) (sym f) (refl, b .holds) in
     let unlike : Different (map signalOf1230 rs) = rw (b .signals) (masked-different m maskSignals different) in
-    let known : Every Known rs = every-unmap (λ g. isIn g maskSignals ≡ true) signalOf1230 rs (rw (b .signals) (every-masked m (λ g. isIn g maskSignals ≡ true) maskSignals in-mask)) in
-    let w : Writes t r rs =
-    record {
-      clean = known-fine 0 rs known;
-      single = no-repeat 0 [] rs (every-true (λ g. isIn g [] ≡ false) none-seen (map signalOf1230 rs)) unlike;
-      within = omega (arith, long);
-    } in
-    let sized : Sized t r (map signalOf1230 rs) (map biasOf1230 rs) =
+    let w : Writes t r (map signalOf1230 rs) (map biasOf1230 rs) =
     record {
       few = few;
       biases = length-map rs signalOf1230 ∙ sym (length-map rs biasOf1230);
       most = omega (arith, length-map rs signalOf1230, suffices-1230 s p h);
+      clean = masked-fine 0 (map signalOf1230 rs) (rw (b .signals) (every-masked m InMask maskSignals in-mask));
+      single = no-repeat 0 [] (map signalOf1230 rs) (every-true (λ g. isIn g [] ≡ false) none-seen (map signalOf1230 rs)) unlike;
+      within = rw (columns1230 rs) (omega (arith, long));
     } in
     put-back s p q t r (fields1230 rs) stands long (omega (arith, long))
-    (call-written t r (map signalOf1230 rs) (map biasOf1230 rs) sized ∙ ap (writeRecords1230 t r) (columns1230 rs) ∙ records-written t r rs w)
+    (call-written t r (map signalOf1230 rs) (map biasOf1230 rs) w ∙ ap (λ (x : List Rec1230). outcome (Accepted (r + total (fields1230 x))) (putAll t r (fields1230 x))) (columns1230 rs))

@@ -9,20 +9,18 @@ use native.Mathlib.Omega.{arith}
 use borrow.Author.Tests.{eq-eqb, ne-eqb, eqb-true}
 use lib.Dec.{T, eqb}
 use lib.ListN.{length, getD, take, drop, drop-of-length-le}
-use lib.IntN.{ℤ}
 use lib.Seq.{drop-cons, take-suc}
-use Rattle.bits.specs.Told.{Told, andThen, signal, duplicate}
-use Rattle.messages.specs.Records.{records1230}
+use Rattle.bits.specs.Told.{Told, andThen, signal}
 use Rattle.messages.specs.Read1230.{maskSignals}
-use Rattle.messages.specs.Writer.{fine, firstFault}
-use Rattle.messages.specs.Write1230.{isIn, fault1230, firstRepeat}
-use Rattle.messages.specs.WriteSteps1230.{unknownAt, repeatIn}
+use Rattle.messages.specs.Writer.{fine, firstFault, isAmong}
+use Rattle.messages.specs.Write1230.{isIn, fault1230}
+use Rattle.messages.proofs.RepeatLaws.{seenAt}
 
 -- ---- k in a list
 
 module _ (k : ℕ) (gs : List ℕ) (i : ℕ) where
   in-cons : i < length gs → isIn k (drop i gs) ≡ cond (eqb (getD gs i 0) k) true (isIn k (drop (suc i) gs))
-  unfolding isIn
+  unfolding isAmong
   in-cons h = ap (isIn k) (drop-cons gs i 0 h)
 
   pub in-here : i < length gs → getD gs i 0 ≡ k → isIn k (drop i gs) ≡ true
@@ -32,37 +30,29 @@ module _ (k : ℕ) (gs : List ℕ) (i : ℕ) where
   in-later h e = rw add-one (in-cons h ∙ ap (λ (b : Bool). cond b true (isIn k (drop (suc i) gs))) (ne-eqb (getD gs i 0) k e))
 
   pub in-none : length gs ≤ i → isIn k (drop i gs) ≡ false
-  unfolding isIn
+  unfolding isAmong
   in-none h = ap (isIn k) (drop-of-length-le gs h)
 
 -- ---- signals that the mask lacks
 
 module _ (gs : List ℕ) (i : ℕ) (h : i < length gs) where
-  unknown-cons : firstFault unknownAt i (drop i gs) ≡ andThen (cond (not (isIn (getD gs i 0) maskSignals)) (signal i) fine) (λ u. firstFault unknownAt (suc i) (drop (suc i) gs))
-  unfolding firstFault unknownAt
-  unknown-cons = ap (firstFault unknownAt i) (drop-cons gs i 0 h)
+  unknown-cons : firstFault fault1230 i (drop i gs) ≡ andThen (cond (not (isIn (getD gs i 0) maskSignals)) (signal i) fine) (λ u. firstFault fault1230 (suc i) (drop (suc i) gs))
+  unfolding firstFault fault1230
+  unknown-cons = ap (firstFault fault1230 i) (drop-cons gs i 0 h)
 
-  pub unknown-here : isIn (getD gs i 0) maskSignals ≡ false → firstFault unknownAt i (drop i gs) ≡ signal i
+  pub unknown-here : isIn (getD gs i 0) maskSignals ≡ false → firstFault fault1230 i (drop i gs) ≡ signal i
   unknown-here e = rw (unknown-cons, e)
 
-  pub known-here : isIn (getD gs i 0) maskSignals ≡ true → firstFault unknownAt i (drop i gs) ≡ firstFault unknownAt (i + 1) (drop (i + 1) gs)
+  pub known-here : isIn (getD gs i 0) maskSignals ≡ true → firstFault fault1230 i (drop i gs) ≡ firstFault fault1230 (i + 1) (drop (i + 1) gs)
   known-here e = rw (add-one i, unknown-cons, e)
 
-pub none-unknown : (gs : List ℕ) (i : ℕ) → length gs ≤ i → firstFault unknownAt i (drop i gs) ≡ fine
+pub none-unknown : (gs : List ℕ) (i : ℕ) → length gs ≤ i → firstFault fault1230 i (drop i gs) ≡ fine
 unfolding firstFault
-none-unknown gs i h = ap (firstFault unknownAt i) (drop-of-length-le gs h)
-
--- the signals tell the faults of the records
-pub fault-by-signals : (i : ℕ) (gs : List ℕ) (zs : List ℤ) → length gs ≡ length zs → firstFault fault1230 i (records1230 gs zs) ≡ firstFault unknownAt i gs
-unfolding records1230 firstFault fault1230 unknownAt
-fault-by-signals i [] zs l = refl
-fault-by-signals i (g ∷ gs) [] l = absurd (omega arith)
-fault-by-signals i (g ∷ gs) (z ∷ zs) l =
-    ap (λ (t : Told Unit). andThen (cond (not (isIn g maskSignals)) (signal i) fine) (λ u. t)) (fault-by-signals (suc i) gs zs (omega arith))
+none-unknown gs i h = ap (firstFault fault1230 i) (drop-of-length-le gs h)
 
 -- where no signal is unknown, each is one of the four
-pub known-first : (i g : ℕ) (rest : Told Unit) → andThen (unknownAt i g) (λ u. rest) ≡ fine → (isIn g maskSignals ≡ true) × (rest ≡ fine)
-unfolding unknownAt
+pub known-first : (i g : ℕ) (rest : Told Unit) → andThen (fault1230 i g) (λ u. rest) ≡ fine → (isIn g maskSignals ≡ true) × (rest ≡ fine)
+unfolding fault1230
 known-first i g rest e = go (isIn g maskSignals) refl e
   where
     go : (b : Bool) → isIn g maskSignals ≡ b → andThen (cond (not b) (signal i) fine) (λ u. rest) ≡ fine → (isIn g maskSignals ≡ true) × (rest ≡ fine)
@@ -70,7 +60,7 @@ known-first i g rest e = go (isIn g maskSignals) refl e
     go false q n = let z : _≡_ {A = ℕ} 0 1 = cc in absurd (omega arith)
 
 pub one-of-four : (g : ℕ) → isIn g maskSignals ≡ true → (g ≡ 2) ⊎ ((g ≡ 3) ⊎ ((g ≡ 8) ⊎ (g ≡ 9)))
-unfolding isIn
+unfolding isAmong
 one-of-four g e = go (eqb 2 g) refl (eqb 3 g) refl (eqb 8 g) refl (eqb 9 g) refl e
   where
     go : (a : Bool) → eqb 2 g ≡ a → (b : Bool) → eqb 3 g ≡ b → (c : Bool) → eqb 8 g ≡ c → (d : Bool) → eqb 9 g ≡ d
@@ -83,13 +73,8 @@ one-of-four g e = go (eqb 2 g) refl (eqb 3 g) refl (eqb 8 g) refl (eqb 9 g) refl
 
 -- ---- signals that stand twice
 
--- the first i signals, the last of them first
-abbrev pub seenAt : List ℕ → ℕ → List ℕ
-seenAt gs zero = []
-seenAt gs (suc i) = getD gs i 0 ∷ seenAt gs i
-
 in-behind : (k g : ℕ) (xs : List ℕ) → isIn k (xs ++ (g ∷ [])) ≡ cond (eqb g k) true (isIn k xs)
-unfolding isIn
+unfolding isAmong
 in-behind k g [] = refl
 in-behind k g (x ∷ xs) = ap (λ (b : Bool). cond (eqb x k) true b) (in-behind k g xs) ∙ go (eqb x k) (eqb g k) (isIn k xs)
   where
@@ -99,35 +84,11 @@ in-behind k g (x ∷ xs) = ap (λ (b : Bool). cond (eqb x k) true b) (in-behind 
     go false true c = refl
     go false false c = refl
 
-seen-is : (k : ℕ) (gs : List ℕ) (i : ℕ) → i ≤ length gs → isIn k (seenAt gs i) ≡ isIn k (take i gs)
-unfolding isIn
+-- those before place i, in either order
+pub seen-is : (k : ℕ) (gs : List ℕ) (i : ℕ) → i ≤ length gs → isIn k (seenAt eqb 0 gs i) ≡ isIn k (take i gs)
+unfolding isAmong
 seen-is k gs zero h = refl
 seen-is k gs (suc i) h =
     ap (λ (b : Bool). cond (eqb (getD gs i 0) k) true b) (seen-is k gs i (omega arith))
     ∙ sym (in-behind k (getD gs i 0) (take i gs))
     ∙ ap (isIn k) (sym (take-suc gs i 0 h))
-
-module _ (gs : List ℕ) (i : ℕ) (h : i < length gs) where
-  repeat-cons : repeatIn i (seenAt gs i) (drop i gs)
-      ≡ cond (isIn (getD gs i 0) (take i gs)) (duplicate i) (repeatIn (suc i) (seenAt gs (suc i)) (drop (suc i) gs))
-  unfolding repeatIn
-  repeat-cons =
-      ap (repeatIn i (seenAt gs i)) (drop-cons gs i 0 h)
-      ∙ ap (λ (b : Bool). cond b (duplicate i) (repeatIn (suc i) (seenAt gs (suc i)) (drop (suc i) gs))) (seen-is (getD gs i 0) gs i (omega arith))
-
-  pub repeat-here : isIn (getD gs i 0) (take i gs) ≡ true → repeatIn i (seenAt gs i) (drop i gs) ≡ duplicate i
-  repeat-here e = rw (repeat-cons, e)
-
-  pub no-repeat-here : isIn (getD gs i 0) (take i gs) ≡ false → repeatIn i (seenAt gs i) (drop i gs) ≡ repeatIn (i + 1) (seenAt gs (i + 1)) (drop (i + 1) gs)
-  no-repeat-here e = rw (add-one i, repeat-cons, e)
-
-pub no-repeat : (gs : List ℕ) (i : ℕ) → length gs ≤ i → repeatIn i (seenAt gs i) (drop i gs) ≡ fine
-unfolding repeatIn
-no-repeat gs i h = ap (repeatIn i (seenAt gs i)) (drop-of-length-le gs h)
-
-pub repeat-by-signals : (i : ℕ) (seen gs : List ℕ) (zs : List ℤ) → length gs ≡ length zs → firstRepeat i seen (records1230 gs zs) ≡ repeatIn i seen gs
-unfolding records1230 firstRepeat repeatIn
-repeat-by-signals i seen [] zs l = refl
-repeat-by-signals i seen (g ∷ gs) [] l = absurd (omega arith)
-repeat-by-signals i seen (g ∷ gs) (z ∷ zs) l =
-    ap (λ (t : Told Unit). cond (isIn g seen) (duplicate i) t) (repeat-by-signals (suc i) (g ∷ seen) gs zs (omega arith))

@@ -8,16 +8,16 @@ use borrow.Author.Tests.{lt-ltb, le-ltb, eq-eqb, ne-eqb}
 use lib.ListN.{length, getD}
 use lib.IntN.{ℤ}
 use lib.Dec.{ltb}
-use Rattle.bits.specs.Told.{Refused, size, tooMany, Accepted, room}
+use Rattle.bits.specs.Told.{Told, Refused, size, tooMany, Accepted, room}
 use Rattle.bits.specs.Outcome.{outcome}
 use Rattle.bits.specs.Fields.{bits, total, putAll}
 use Rattle.messages.specs.Records.{Rec1059, records1059}
-use Rattle.messages.specs.Writer.{fine, firstFault, putRun}
-use Rattle.messages.specs.Write1059.{fault1059, crowded, present, fields1059, writeRecords1059, write1059, ofSatellite, satellitesFrom}
-use Rattle.messages.specs.WriteSteps1059.{writeSound, Sound, Linked, crowdedIn, presentIn}
+use Rattle.messages.specs.Writer.{fine, firstFault, writeRun}
+use Rattle.messages.specs.Write1059.{fault1059, crowded, present, fields1059, refusedRecords1059, refused1059, write1059, ofSatellite, satellitesFrom}
+use Rattle.messages.specs.WriteSteps1059.{refusedSound, writeSound, Sound, Linked, crowdedIn, presentIn}
 use Rattle.messages.specs.Put.{Fits, Did}
 use Rattle.messages.proofs.PutLaws.{Left, left-all, left-as, left-fits, left-put, left-none}
-use Rattle.messages.proofs.WriterLaws.{run-put, run-room}
+use Rattle.messages.proofs.WriterLaws.{run-refused, run-put, run-room}
 use Rattle.messages.proofs.LinkLaws.{count-records}
 use Rattle.messages.proofs.CrowdLaws.{counts-fit, crowded-is, present-is, bits-is}
 
@@ -25,17 +25,17 @@ use Rattle.messages.proofs.CrowdLaws.{counts-fit, crowded-is, present-i
 
 module _ (s : List ℕ) (p : ℕ) (rs : List Rec1059) where
   pub some-crowded : (a : ℕ) → crowded 0 64 rs ≡ tooMany a → outcome (tooMany a) s ≡ writeSound s p rs
-  unfolding writeSound
-  some-crowded a e = rw e
+  unfolding writeSound refusedSound
+  some-crowded a e = run-refused (refusedSound rs) s p (fields1059 rs) (rw e)
 
   module _ (c : crowded 0 64 rs ≡ fine) where
     pub all-present : present 0 64 rs ≡ 64 → outcome (tooMany 64) s ≡ writeSound s p rs
-    unfolding writeSound
-    all-present e = rw (c, eq-eqb (present 0 64 rs) 64 e)
+    unfolding writeSound refusedSound
+    all-present e = run-refused (refusedSound rs) s p (fields1059 rs) (rw (c, eq-eqb (present 0 64 rs) 64 e))
 
-    pub run-left : (present 0 64 rs ≡ 64 → ⊥) → putRun s p (fields1059 rs) ≡ writeSound s p rs
-    unfolding writeSound
-    run-left e = rw (c, ne-eqb (present 0 64 rs) 64 e)
+    pub nothing : (present 0 64 rs ≡ 64 → ⊥) → refusedSound rs ≡ fine
+    unfolding refusedSound
+    nothing e = rw (c, ne-eqb (present 0 64 rs) 64 e)
 
 -- ---- records without a fault, by the counts of their satellites
 
@@ -70,6 +70,9 @@ module _ (s : List ℕ) (p : ℕ) (sats gs : List ℕ) (zs : List ℤ) (d : Soun
         block : total (fields1059 (records1059 sats gs zs)) ≡ 6 + m * 11 + length sats * 19
         block = omega (arith, bits-is (records1059 sats gs zs) cs (l .all-counts) counts, l .sum, em)
 
+        clear : refusedSound (records1059 sats gs zs) ≡ fine
+        clear = nothing s p (records1059 sats gs zs) (crowd ∙ none) (λ e. n (sym seen ∙ e))
+
         laid : fields1059 (records1059 sats gs zs) ≡ (bits 6 m ∷ []) ++ satellitesFrom 0 64 (records1059 sats gs zs)
         unfolding fields1059
         laid = ap (λ (k : ℕ). bits 6 k ∷ satellitesFrom 0 64 (records1059 sats gs zs)) seen
@@ -78,10 +81,10 @@ module _ (s : List ℕ) (p : ℕ) (sats gs : List ℕ) (zs : List ℤ) (d : Soun
         begun = left-as laid (left-all s p (fields1059 (records1059 sats gs zs)))
 
         pub sound-room : length s * 8 < p + (6 + m * 11 + length sats * 19) → outcome (room (6 + m * 11 + length sats * 19)) s ≡ writeSound s p (records1059 sats gs zs)
+        unfolding writeSound
         sound-room o =
             ap (λ (k : ℕ). outcome (room k) s) (sym block)
-            ∙ sym (run-room s p (fields1059 (records1059 sats gs zs)) (omega (arith, block)))
-            ∙ run-left s p (records1059 sats gs zs) (crowd ∙ none) (λ e. n (sym seen ∙ e))
+            ∙ run-room (refusedSound (records1059 sats gs zs)) s p (fields1059 (records1059 sats gs zs)) clear (omega (arith, block))
 
         module _ (few : length s ≤ 1023) (o : p + (6 + m * 11 + length sats * 19) ≤ length s * 8) where
           whole : Fits s p (fields1059 (records1059 sats gs zs))
@@ -99,44 +102,48 @@ module _ (s : List ℕ) (p : ℕ) (sats gs : List ℕ) (zs : List ℤ) (d : Soun
 
             pub sound-put : (u : List ℕ) → u ≡ putAll t q (satellitesFrom 0 64 (records1059 sats gs zs))
                 → outcome (Accepted (p + (6 + m * 11 + length sats * 19))) u ≡ writeSound s p (records1059 sats gs zs)
+            unfolding writeSound
             sound-put u e =
                 ap₂ (λ (k : ℕ) (x : List ℕ). outcome (Accepted (p + k)) x) (sym block)
                 (left-none (left-put (satellitesFrom 0 64 (records1059 sats gs zs)) [] rest (record { end = refl; left = e })) .left)
-                ∙ sym (run-put s p (fields1059 (records1059 sats gs zs)) (whole .within))
-                ∙ run-left s p (records1059 sats gs zs) (crowd ∙ none) (λ e. n (sym seen ∙ e))
+                ∙ sym (run-put (refusedSound (records1059 sats gs zs)) s p (fields1059 (records1059 sats gs zs)) clear (whole .within))
 
 -- ---- the call
 
 module _ (edition : ℕ) (s : List ℕ) (p : ℕ) (sats gs : List ℕ) (zs : List ℤ) where
-  pub long-data : 1023 < length s → outcome size s ≡ write1059 edition s p sats gs zs
+  refusal : {n : ℕ} {carried : List ℕ} → refused1059 edition (length s) sats gs zs ≡ Refused n carried → outcome (Refused n carried) s ≡ write1059 edition s p sats gs zs
   unfolding write1059
-  long-data h = rw (lt-ltb 1023 (length s) h)
+  refusal e = run-refused (refused1059 edition (length s) sats gs zs) s p (fields1059 (records1059 sats gs zs)) e
+
+  pub long-data : 1023 < length s → outcome size s ≡ write1059 edition s p sats gs zs
+  unfolding refused1059
+  long-data h = refusal (rw (lt-ltb 1023 (length s) h))
 
   module _ (h : length s ≤ 1023) where
     pub uneven-signals : (length sats ≡ length gs → ⊥) → outcome size s ≡ write1059 edition s p sats gs zs
-    unfolding write1059
-    uneven-signals d = rw (le-ltb 1023 (length s) h, ne-eqb (length sats) (length gs) d)
+    unfolding refused1059
+    uneven-signals d = refusal (rw (le-ltb 1023 (length s) h, ne-eqb (length sats) (length gs) d))
 
     module _ (lg : length sats ≡ length gs) where
       pub uneven-biases : (length sats ≡ length zs → ⊥) → outcome size s ≡ write1059 edition s p sats gs zs
-      unfolding write1059
-      uneven-biases d = rw (le-ltb 1023 (length s) h, eq-eqb (length sats) (length gs) lg, ne-eqb (length sats) (length zs) d)
+      unfolding refused1059
+      uneven-biases d = refusal (rw (le-ltb 1023 (length s) h, eq-eqb (length sats) (length gs) lg, ne-eqb (length sats) (length zs) d))
 
       module _ (lz : length sats ≡ length zs) where
         pub many-records : 1953 < length sats → outcome size s ≡ write1059 edition s p sats gs zs
-        unfolding write1059
-        many-records m = rw (le-ltb 1023 (length s) h, eq-eqb (length sats) (length gs) lg, eq-eqb (length sats) (length zs) lz, lt-ltb 1953 (length sats) m)
+        unfolding refused1059
+        many-records m = refusal (rw (le-ltb 1023 (length s) h, eq-eqb (length sats) (length gs) lg, eq-eqb (length sats) (length zs) lz, lt-ltb 1953 (length sats) m))
 
         module _ (m : length sats ≤ 1953) where
-          by-records : writeRecords1059 edition s p (records1059 sats gs zs) ≡ write1059 edition s p sats gs zs
-          unfolding write1059
+          by-records : refused1059 edition (length s) sats gs zs ≡ refusedRecords1059 edition (records1059 sats gs zs)
+          unfolding refused1059
           by-records = rw (le-ltb 1023 (length s) h, eq-eqb (length sats) (length gs) lg, eq-eqb (length sats) (length zs) lz, le-ltb 1953 (length sats) m)
 
           pub some-fault : {n : ℕ} {carried : List ℕ} → firstFault (fault1059 edition) 0 (records1059 sats gs zs) ≡ Refused n carried
               → outcome (Refused n carried) s ≡ write1059 edition s p sats gs zs
-          unfolding writeRecords1059
-          some-fault e = rw (← by-records, e)
+          unfolding refusedRecords1059
+          some-fault e = refusal (rw (by-records, e))
 
           pub no-fault : firstFault (fault1059 edition) 0 (records1059 sats gs zs) ≡ fine → writeSound s p (records1059 sats gs zs) ≡ write1059 edition s p sats gs zs
-          unfolding writeRecords1059 writeSound
-          no-fault e = rw (← by-records, e)
+          unfolding write1059 writeSound refusedSound refusedRecords1059
+          no-fault e = ap (λ (t : Told Unit). writeRun t s p (fields1059 (records1059 sats gs zs))) (sym (by-records ∙ rw e))

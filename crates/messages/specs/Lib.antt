@@ -21,4 +21,3 @@ pub mod Columns
 pub mod ReadSteps
 pub mod Put
 pub mod WriteSteps1059
-pub mod WriteSteps1230

@@ -5,12 +5,12 @@ use Prim.Native.Nat.{ℕ, zero, suc, _+_}
 use lib.ListN.{length}
 use lib.IntN.{ℤ}
 use lib.Dec.{eqb, ltb}
-use Rattle.bits.specs.Told.{Told, size, satellite, signal, range, tooMany}
+use Rattle.bits.specs.Told.{Told, andThen, size, satellite, signal, range, tooMany}
 use Rattle.bits.specs.Signed.{fitsTwos, twosBits}
-use Rattle.bits.specs.Outcome.{Outcome, outcome}
+use Rattle.bits.specs.Outcome.{Outcome}
 use Rattle.bits.specs.Fields.{Field, bits}
 use Rattle.messages.specs.Signals1059.{isSignal1059}
-use Rattle.messages.specs.Writer.{fine, keep, firstFault, unless, putRun}
+use Rattle.messages.specs.Writer.{fine, keep, firstFault, writeRun}
 use Rattle.messages.specs.Records.{Rec1059, rec1059, records1059}
 
 -- ---- refusals
@@ -61,19 +61,23 @@ fields1059 rs = bits 6 (present 0 64 rs) ∷ satellitesFrom 0 64 rs
 
 -- ---- the call
 
--- records written from bit p on: the first fault, TooMany of one satellite, TooMany of all, Room
-unfoldable pub writeRecords1059 : ℕ → List ℕ → ℕ → List Rec1059 → Outcome ℕ (List ℕ)
-writeRecords1059 edition s p rs =
-    unless s (firstFault (fault1059 edition) 0 rs)
-    (unless s (crowded 0 64 rs)
-    (unless s (cond (eqb (present 0 64 rs) 64) (tooMany 64) fine)
-    (putRun s p (fields1059 rs))))
+-- records: the first fault, TooMany of one satellite, TooMany of all
+unfoldable pub refusedRecords1059 : ℕ → List Rec1059 → Told Unit
+refusedRecords1059 edition rs =
+    andThen (firstFault (fault1059 edition) 0 rs) (λ u.
+    andThen (crowded 0 64 rs) (λ u.
+    cond (eqb (present 0 64 rs) 64) (tooMany 64) fine))
 
--- a call with lists of the parts: Size of the data, of unequal lists, of over 1,953 records; then the records
+-- a call: Size of n bytes of data, of unequal lists, of over 1,953 records; then the records
+unfoldable pub refused1059 : ℕ → ℕ → List ℕ → List ℕ → List ℤ → Told Unit
+refused1059 edition n sats gs zs =
+    cond (ltb 1023 n) size
+    (cond (not (eqb (length sats) (length gs))) size
+    (cond (not (eqb (length sats) (length zs))) size
+    (cond (ltb 1953 (length sats)) size
+    (refusedRecords1059 edition (records1059 sats gs zs)))))
+
+-- the block of lists of the parts of records, written from bit p on
 unfoldable pub write1059 : ℕ → List ℕ → ℕ → List ℕ → List ℕ → List ℤ → Outcome ℕ (List ℕ)
 write1059 edition s p sats gs zs =
-    cond (ltb 1023 (length s)) (outcome size s)
-    (cond (not (eqb (length sats) (length gs))) (outcome size s)
-    (cond (not (eqb (length sats) (length zs))) (outcome size s)
-    (cond (ltb 1953 (length sats)) (outcome size s)
-    (writeRecords1059 edition s p (records1059 sats gs zs)))))
+    writeRun (refused1059 edition (length s) sats gs zs) s p (fields1059 (records1059 sats gs zs))

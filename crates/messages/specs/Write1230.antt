@@ -1,31 +1,25 @@
 -- Writing the bias block of message 1230. Assumes nothing.
-use mathlib.Core.Bool.{Bool, true, false, cond, not}
+use mathlib.Core.Bool.{Bool, cond, not}
 use mathlib.Core.List.{List, [], _∷_, _++_}
-use Prim.Native.Nat.{ℕ, suc, _+_, _^_}
+use Prim.Native.Nat.{ℕ, _+_, _^_}
 use lib.ListN.{length}
 use lib.IntN.{ℤ}
 use lib.Dec.{eqb, ltb}
-use Rattle.bits.specs.Told.{Told, size, signal, duplicate}
+use Rattle.bits.specs.Told.{Told, andThen, size, signal}
 use Rattle.bits.specs.Signed.{twosBits}
-use Rattle.bits.specs.Outcome.{Outcome, outcome}
+use Rattle.bits.specs.Outcome.{Outcome}
 use Rattle.bits.specs.Fields.{Field, bits}
 use Rattle.messages.specs.Records.{Rec1230, rec1230, records1230}
 use Rattle.messages.specs.Read1230.{maskSignals}
-use Rattle.messages.specs.Writer.{fine, firstFault, keep, unless, putRun}
+use Rattle.messages.specs.Writer.{fine, firstFault, isAmong, firstRepeat, keep, writeRun}
 
 -- k is in the list
-unfoldable pub isIn : ℕ → List ℕ → Bool
-isIn k [] = false
-isIn k (j ∷ js) = cond (eqb j k) true (isIn k js)
+abbrev pub isIn : ℕ → List ℕ → Bool
+isIn k js = isAmong eqb k js
 
--- record i: a signal that the mask lacks
-unfoldable pub fault1230 : ℕ → Rec1230 → Told Unit
-fault1230 i (rec1230 g z) = cond (not (isIn g maskSignals)) (signal i) fine
-
--- the first of the records, counted from i, whose signal is among those before it
-unfoldable pub firstRepeat : ℕ → List ℕ → List Rec1230 → Told Unit
-firstRepeat i seen [] = fine
-firstRepeat i seen (rec1230 g z ∷ rs) = cond (isIn g seen) (duplicate i) (firstRepeat (suc i) (g ∷ seen) rs)
+-- the signal of record i, which the mask may lack
+unfoldable pub fault1230 : ℕ → ℕ → Told Unit
+fault1230 i g = cond (not (isIn g maskSignals)) (signal i) fine
 
 -- the biases of signal g, in list order
 unfoldable pub ofSignal : ℕ → List Rec1230 → List ℤ
@@ -51,17 +45,15 @@ inMaskOrder (g ∷ gs) rs = biasFields16 (ofSignal g rs) ++ inMaskOrder gs rs
 unfoldable pub fields1230 : List Rec1230 → List Field
 fields1230 rs = bits 4 (maskOf maskSignals rs) ∷ inMaskOrder maskSignals rs
 
--- records written from bit p on: the first Signal, the first Duplicate, Room
-unfoldable pub writeRecords1230 : List ℕ → ℕ → List Rec1230 → Outcome ℕ (List ℕ)
-writeRecords1230 s p rs =
-    unless s (firstFault fault1230 0 rs)
-    (unless s (firstRepeat 0 [] rs)
-    (putRun s p (fields1230 rs)))
+-- a call: Size of n bytes of data, of unequal lists, of over 4 records; the first Signal; the first Duplicate
+unfoldable pub refused1230 : ℕ → List ℕ → List ℤ → Told Unit
+refused1230 n gs zs =
+    cond (ltb 1023 n) size
+    (cond (not (eqb (length gs) (length zs))) size
+    (cond (ltb 4 (length gs)) size
+    (andThen (firstFault fault1230 0 gs) (λ u.
+    firstRepeat eqb 0 [] gs))))
 
--- a call with lists of the parts: Size of the data, of unequal lists, of over 4 records; then the records
+-- the block of lists of the parts of records, written from bit p on
 unfoldable pub write1230 : List ℕ → ℕ → List ℕ → List ℤ → Outcome ℕ (List ℕ)
-write1230 s p gs zs =
-    cond (ltb 1023 (length s)) (outcome size s)
-    (cond (not (eqb (length gs) (length zs))) (outcome size s)
-    (cond (ltb 4 (length gs)) (outcome size s)
-    (writeRecords1230 s p (records1230 gs zs))))
+write1230 s p gs zs = writeRun (refused1230 (length s) gs zs) s p (fields1230 (records1230 gs zs))

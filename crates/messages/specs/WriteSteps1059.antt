@@ -6,11 +6,11 @@ use Prim.Native.Nat.{ℕ, suc, _+_, _≤_, _<_}
 use lib.ListN.{length, getD, drop}
 use lib.IntN.{ℤ, pos}
 use lib.Dec.{eqb, ltb}
-use Rattle.bits.specs.Told.{Told, satellite, signal, range, tooMany}
+use Rattle.bits.specs.Told.{Told, andThen, satellite, signal, range, tooMany}
 use Rattle.bits.specs.Signed.{fitsTwos}
 use Rattle.bits.specs.Outcome.{Outcome}
 use Rattle.messages.specs.Columns.{inMask}
-use Rattle.messages.specs.Writer.{fine, unless, putRun}
+use Rattle.messages.specs.Writer.{fine, writeRun}
 use Rattle.messages.specs.Records.{Rec1059, rec1059}
 use Rattle.messages.specs.Write1059.{crowded, present, fields1059}
 use Rattle.messages.specs.declared.write1059.Fault.{Fault}
@@ -42,12 +42,13 @@ pub record Sound (sats gs : List ℕ) (zs : List ℤ) : Type 0 where
   pub short : (i : ℕ) → i < length sats → getD gs i 0 < 32
   pub fits : (i : ℕ) → i < length sats → fitsTwos 14 (getD zs i (pos 0)) ≡ true
 
--- what is left to decide of them
+-- what is left to refuse of them
+unfoldable pub refusedSound : List Rec1059 → Told Unit
+refusedSound rs = andThen (crowded 0 64 rs) (λ u. cond (eqb (present 0 64 rs) 64) (tooMany 64) fine)
+
+-- and the block of them written from bit p on
 unfoldable pub writeSound : List ℕ → ℕ → List Rec1059 → Outcome ℕ (List ℕ)
-writeSound s p rs =
-    unless s (crowded 0 64 rs)
-    (unless s (cond (eqb (present 0 64 rs) 64) (tooMany 64) fine)
-    (putRun s p (fields1059 rs)))
+writeSound s p rs = writeRun (refusedSound rs) s p (fields1059 rs)
 
 -- ---- the records of each satellite, linked
 

@@ -4,7 +4,7 @@ ghost use mathlib.Core.Bool.{cond};
 ghost use mathlib.Core.List.{[]};
 ghost use Prim.Native.Nat.{_≤_};
 ghost use lib.ListN.{length};
-ghost use lib.Dec.{ltb};
+ghost use lib.Dec.{eqb, ltb};
 ghost use Rattle.bits.specs.Told.{signal as signalAt, duplicate};
 ghost use Rattle.bits.specs.Outcome.{outcome};
 ghost use Rattle.bits.specs.Fields.{putAll};
@@ -12,9 +12,8 @@ ghost use Rattle.messages.specs.Answers.{toldBlock};
 ghost use Rattle.messages.specs.Put.{Fits, Did};
 ghost use Rattle.messages.specs.Records.{records1230};
 ghost use Rattle.messages.specs.Read1230.{maskSignals};
-ghost use Rattle.messages.specs.Writer.{fine, firstFault};
-ghost use Rattle.messages.specs.Write1230.{isIn, ofSignal, biasFields16, fields1230, write1230};
-ghost use Rattle.messages.specs.WriteSteps1230.{unknownAt, repeatIn};
+ghost use Rattle.messages.specs.Writer.{fine, firstFault, firstRepeat};
+ghost use Rattle.messages.specs.Write1230.{isIn, fault1230, ofSignal, biasFields16, fields1230, write1230};
 use crate::answer::BlockWritten;
 use crate::put;
 use crate::read1230::MASK_SIGNALS;
@@ -52,7 +51,7 @@ pub fn write(bytes: &mut [u8], start: usize, signals: &[u8], biases: &[i16]) -> 
 
 // The index of the first signal that the mask lacks, or the length.
 fn first_unknown(signals: &[u8]) -> usize
-    ensures { λ r. ⌜ cond (ltb r (length (now (signals .entry)))) (signalAt r) fine ≡ firstFault unknownAt 0 (now (signals .entry)) ⌝ }
+    ensures { λ r. ⌜ cond (ltb r (length (now (signals .entry)))) (signalAt r) fine ≡ firstFault fault1230 0 (now (signals .entry)) ⌝ }
 {
     let mut i: usize = 0;
     while i < signals.len() {
@@ -73,7 +72,7 @@ fn of_mask(signal: u8) -> bool
 
 // The index of the first signal that stands at an earlier place too, or the length.
 fn first_repeat(signals: &[u8]) -> usize
-    ensures { λ r. ⌜ cond (ltb r (length (now (signals .entry)))) (duplicate r) fine ≡ repeatIn 0 [] (now (signals .entry)) ⌝ }
+    ensures { λ r. ⌜ cond (ltb r (length (now (signals .entry)))) (duplicate r) fine ≡ firstRepeat eqb 0 [] (now (signals .entry)) ⌝ }
 {
     let mut i: usize = 0;
     while i < signals.len() {

@@ -6,14 +6,14 @@ use borrow.Author.Needs.{needs}
 use borrow.Author.Tests.{lt-ltb, le-ltb, not-true, not-false}
 use lib.ListN.{length, drop}
 use Rattle.messages.specs.Writer.{firstFault}
-use Rattle.messages.specs.WriteSteps1230.{unknownAt}
+use Rattle.messages.specs.Write1230.{fault1230}
 use Rattle.messages.proofs.Signals1230Laws.{unknown-here, known-here, none-unknown}
 use Rattle.messages.proofs.write1230.first_unknown.Statement.{statement}
 use Rattle.messages.proofs.write1230.first_unknown.Tie as tie
 
 abbrev Inv-loop : tie.InvT-loop
 Inv-loop signals i₀ i =
-    (i ≤ length signals) × (firstFault unknownAt 0 signals ≡ firstFault unknownAt i (drop i signals))
+    (i ≤ length signals) × (firstFault fault1230 0 signals ≡ firstFault fault1230 i (drop i signals))
 
 abbrev μ-loop : tie.MeasureT-loop
 μ-loop signals i₀ i = length signals - i
