@@ -389,17 +389,17 @@ uint32_t PLAIN(1059_read)(const uint8_t *data, size_t data_len, size_t start, ui
     return answer(extra, PV_ACCEPTED, records, end);
 }
 
-/* Signals 0, 1, 2, 5 to 11, 14 and 15. */
-static int is_1059_signal(unsigned signal)
+/* Edition 1: signals 0, 1, 2, 5 to 11, 14 and 15. Edition 2: 0 to 15. */
+static int is_1059_signal(uint32_t edition, unsigned signal)
 {
-    return signal < 16 && (0xCFE7u >> signal & 1);
+    return signal < 16 && ((edition == 1 ? 0xCFE7u : 0xFFFFu) >> signal & 1);
 }
 
-static uint32_t fault_1059(unsigned satellite, unsigned signal, int bias)
+static uint32_t fault_1059(uint32_t edition, unsigned satellite, unsigned signal, int bias)
 {
     if (satellite > 63)
         return PV_SATELLITE;
-    if (!is_1059_signal(signal))
+    if (!is_1059_signal(edition, signal))
         return PV_SIGNAL;
     return bias < -8192 || bias > 8191 ? PV_RANGE : PV_ACCEPTED;
 }
@@ -441,18 +441,20 @@ static void put_1059(uint8_t *data, size_t start, const struct tally *tally, con
     }
 }
 
-uint32_t PLAIN(1059_write)(uint8_t *data, size_t data_len, size_t start, const uint8_t *satellites,
+uint32_t PLAIN(1059_write)(uint32_t edition, uint8_t *data, size_t data_len, size_t start, const uint8_t *satellites,
                            size_t satellites_len, const uint8_t *signals, size_t signals_len, const int16_t *biases,
                            size_t biases_len, uint64_t *extra, size_t extra_len)
 {
     if (extra_len != PV_EXTRA_SIZE)
         return PV_SIZE;
+    if (edition != 1 && edition != 2)
+        return answer(extra, PV_KIND, 0, 0);
     size_t count = satellites_len;
     if (data_len > PV_DATA_MAX || count != signals_len || count != biases_len || count > PV_1059_WRITE_MAX)
         return answer(extra, PV_SIZE, 0, 0);
     struct tally tally = { { 0 }, 0 };
     for (size_t i = 0; i < count; i++) {
-        uint32_t fault = fault_1059(satellites[i], signals[i], biases[i]);
+        uint32_t fault = fault_1059(edition, satellites[i], signals[i], biases[i]);
         if (fault != PV_ACCEPTED)
             return answer(extra, fault, i, 0);
         tally.of[satellites[i]]++;

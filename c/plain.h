@@ -23,8 +23,8 @@
     uint32_t prefix##_1059_read(const uint8_t *data, size_t data_len, size_t start, uint8_t *satellites,               \
                                 size_t satellites_len, uint8_t *signals, size_t signals_len, int16_t *biases,          \
                                 size_t biases_len, uint64_t *extra, size_t extra_len);                                 \
-    uint32_t prefix##_1059_write(uint8_t *data, size_t data_len, size_t start, const uint8_t *satellites,              \
-                                 size_t satellites_len, const uint8_t *signals, size_t signals_len,                    \
+    uint32_t prefix##_1059_write(uint32_t edition, uint8_t *data, size_t data_len, size_t start,                       \
+                                 const uint8_t *satellites, size_t satellites_len, const uint8_t *signals, size_t signals_len,                    \
                                  const int16_t *biases, size_t biases_len, uint64_t *extra, size_t extra_len);         \
     uint32_t prefix##_1230_read(const uint8_t *data, size_t data_len, size_t start, uint8_t *signals,                  \
                                 size_t signals_len, int16_t *biases, size_t biases_len, uint64_t *extra,               \

@@ -596,19 +596,24 @@ uint32_t ref_1230_read(const uint8_t *data, size_t data_len, size_t start, uint8
 
 /* ---- Writing of blocks. ---- */
 
-static int is_1059_signal(uint8_t signal)
+static int is_edition(uint32_t edition)
 {
-    for (size_t i = 0; i < sizeof signals_1059; i++)
-        if (signals_1059[i] == signal)
-            return 1;
-    return 0;
+    return edition == 1 || edition == 2;
 }
 
-static uint32_t fault_of_1059(uint8_t satellite, uint8_t signal, int16_t bias)
+static const struct signal *by_number_in(struct table table, uint32_t number)
+{
+    for (size_t i = 0; i < table.count; i++)
+        if (table.entries[i].number == number)
+            return table.entries + i;
+    return NULL;
+}
+
+static uint32_t fault_of_1059(uint32_t edition, uint8_t satellite, uint8_t signal, int16_t bias)
 {
     if (satellite > 63)
         return PV_SATELLITE;
-    if (!is_1059_signal(signal))
+    if (by_number_in(editions_1059[edition], signal) == NULL)
         return PV_SIGNAL;
     if (!fits_twos(bias, 14))
         return PV_RANGE;
@@ -656,17 +661,19 @@ static size_t put_satellite(uint8_t *data, size_t place, unsigned satellite, con
     return place;
 }
 
-uint32_t ref_1059_write(uint8_t *data, size_t data_len, size_t start, const uint8_t *satellites, size_t satellites_len,
-                        const uint8_t *signals, size_t signals_len, const int16_t *biases, size_t biases_len,
-                        uint64_t *extra, size_t extra_len)
+uint32_t ref_1059_write(uint32_t edition, uint8_t *data, size_t data_len, size_t start, const uint8_t *satellites,
+                        size_t satellites_len, const uint8_t *signals, size_t signals_len, const int16_t *biases,
+                        size_t biases_len, uint64_t *extra, size_t extra_len)
 {
     if (extra_len != PV_EXTRA_SIZE)
         return PV_SIZE;
+    if (!is_edition(edition))
+        return refuse(extra, PV_KIND, 0);
     size_t count = satellites_len;
     if (data_len > PV_DATA_MAX || count != signals_len || count != biases_len || count > PV_1059_WRITE_MAX)
         return refuse(extra, PV_SIZE, 0);
     for (size_t i = 0; i < count; i++) {
-        uint32_t fault = fault_of_1059(satellites[i], signals[i], biases[i]);
+        uint32_t fault = fault_of_1059(edition, satellites[i], signals[i], biases[i]);
         if (fault != PV_ACCEPTED)
             return refuse(extra, fault, i);
     }
@@ -741,27 +748,24 @@ static struct table table_of(uint32_t system)
 
 static const struct signal *by_number(uint32_t system, uint32_t number)
 {
-    struct table table = table_of(system);
-    for (size_t i = 0; i < table.count; i++)
-        if (table.entries[i].number == number)
-            return table.entries + i;
-    return NULL;
+    return by_number_in(table_of(system), number);
 }
 
-static const struct signal *by_name(uint32_t system, uint32_t band, uint32_t letter)
+static const struct signal *by_name_in(struct table table, uint32_t band, uint32_t letter)
 {
-    struct table table = table_of(system);
     for (size_t i = 0; i < table.count; i++)
         if (table.entries[i].band == band && table.entries[i].letter == letter)
             return table.entries + i;
     return NULL;
 }
 
-uint32_t ref_signal_of(uint32_t system, uint32_t number, uint64_t *extra, size_t extra_len)
+static const struct signal *by_name(uint32_t system, uint32_t band, uint32_t letter)
 {
-    if (extra_len != PV_EXTRA_SIZE)
-        return PV_SIZE;
-    const struct signal *signal = by_number(system, number);
+    return by_name_in(table_of(system), band, letter);
+}
+
+static uint32_t tell_signal(const struct signal *signal, uint64_t *extra)
+{
     clear(extra);
     if (signal != NULL) {
         extra[PV_AT_SIGNAL_FOUND] = 1;
@@ -771,17 +775,42 @@ uint32_t ref_signal_of(uint32_t system, uint32_t number, uint64_t *extra, size_t
     return PV_ACCEPTED;
 }
 
-uint32_t ref_number_of(uint32_t system, uint32_t band, uint32_t letter, uint64_t *extra, size_t extra_len)
+static uint32_t tell_number(const struct signal *signal, uint64_t *extra)
 {
-    if (extra_len != PV_EXTRA_SIZE)
-        return PV_SIZE;
-    const struct signal *signal = by_name(system, band, letter);
     clear(extra);
     if (signal != NULL) {
         extra[PV_AT_NUMBER_FOUND] = 1;
         extra[PV_AT_NUMBER] = signal->number;
     }
     return PV_ACCEPTED;
+}
+
+uint32_t ref_signal_of(uint32_t system, uint32_t number, uint64_t *extra, size_t extra_len)
+{
+    return extra_len != PV_EXTRA_SIZE ? PV_SIZE : tell_signal(by_number(system, number), extra);
+}
+
+uint32_t ref_number_of(uint32_t system, uint32_t band, uint32_t letter, uint64_t *extra, size_t extra_len)
+{
+    return extra_len != PV_EXTRA_SIZE ? PV_SIZE : tell_number(by_name(system, band, letter), extra);
+}
+
+uint32_t ref_1059_signal_of(uint32_t edition, uint32_t number, uint64_t *extra, size_t extra_len)
+{
+    if (extra_len != PV_EXTRA_SIZE)
+        return PV_SIZE;
+    if (!is_edition(edition))
+        return refuse(extra, PV_KIND, 0);
+    return tell_signal(by_number_in(editions_1059[edition], number), extra);
+}
+
+uint32_t ref_1059_number_of(uint32_t edition, uint32_t band, uint32_t letter, uint64_t *extra, size_t extra_len)
+{
+    if (extra_len != PV_EXTRA_SIZE)
+        return PV_SIZE;
+    if (!is_edition(edition))
+        return refuse(extra, PV_KIND, 0);
+    return tell_number(by_name_in(editions_1059[edition], band, letter), extra);
 }
 
 static int64_t compare(uint32_t a, uint32_t b)

@@ -43,9 +43,9 @@ uint32_t ref_feed(uint8_t *held, size_t held_len, size_t held_count, const uint8
 uint32_t ref_1059_read(const uint8_t *data, size_t data_len, size_t start, uint8_t *satellites, size_t satellites_len,
                        uint8_t *signals, size_t signals_len, int16_t *biases, size_t biases_len,
                        uint64_t *extra, size_t extra_len);
-uint32_t ref_1059_write(uint8_t *data, size_t data_len, size_t start, const uint8_t *satellites, size_t satellites_len,
-                        const uint8_t *signals, size_t signals_len, const int16_t *biases, size_t biases_len,
-                        uint64_t *extra, size_t extra_len);
+uint32_t ref_1059_write(uint32_t edition, uint8_t *data, size_t data_len, size_t start, const uint8_t *satellites,
+                        size_t satellites_len, const uint8_t *signals, size_t signals_len, const int16_t *biases,
+                        size_t biases_len, uint64_t *extra, size_t extra_len);
 float ref_1059_metres(int16_t raw);
 
 uint32_t ref_1230_read(const uint8_t *data, size_t data_len, size_t start, uint8_t *signals, size_t signals_len,
@@ -54,6 +54,8 @@ uint32_t ref_1230_write(uint8_t *data, size_t data_len, size_t start, const uint
                         const int16_t *biases, size_t biases_len, uint64_t *extra, size_t extra_len);
 float ref_1230_metres(int16_t raw);
 
+uint32_t ref_1059_signal_of(uint32_t edition, uint32_t number, uint64_t *extra, size_t extra_len);
+uint32_t ref_1059_number_of(uint32_t edition, uint32_t band, uint32_t letter, uint64_t *extra, size_t extra_len);
 uint32_t ref_signal_of(uint32_t system, uint32_t number, uint64_t *extra, size_t extra_len);
 uint32_t ref_number_of(uint32_t system, uint32_t band, uint32_t letter, uint64_t *extra, size_t extra_len);
 uint32_t ref_signal_order(uint32_t system, uint32_t band_a, uint32_t letter_a, uint32_t band_b, uint32_t letter_b,

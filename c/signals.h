@@ -8,9 +8,6 @@
 #include <stddef.h>
 #include <stdint.h>
 
-/* The numbers of the 1059 signals. */
-static const uint8_t signals_1059[] = { 0, 1, 2, 5, 6, 7, 8, 9, 10, 11, 14, 15 };
-
 /* The glo numbers of the 1230 signals, in mask order. */
 static const uint8_t signals_1230[4] = { 2, 3, 8, 9 };
 
@@ -56,5 +53,18 @@ struct table {
 static const struct table tables[] = {
     TABLE(gps), TABLE(glo), TABLE(gal), TABLE(sbas), TABLE(qzss), TABLE(bds), TABLE(navic),
 };
+
+/* ---- The 1059 signals, by edition. There is no edition 0. ---- */
+
+static const struct signal edition_1[] = {
+    { 0, 1, 'C' }, { 1, 1, 'P' }, { 2, 1, 'W' }, { 5, 2, 'C' }, { 6, 2, 'D' }, { 7, 2, 'S' },
+    { 8, 2, 'L' }, { 9, 2, 'X' }, { 10, 2, 'P' }, { 11, 2, 'W' }, { 14, 5, 'I' }, { 15, 5, 'Q' },
+};
+static const struct signal edition_2[] = {
+    { 0, 1, 'C' }, { 1, 1, 'P' }, { 2, 1, 'W' }, { 3, 1, 'Y' }, { 4, 1, 'M' }, { 5, 2, 'C' },
+    { 6, 2, 'D' }, { 7, 2, 'S' }, { 8, 2, 'L' }, { 9, 2, 'X' }, { 10, 2, 'P' }, { 11, 2, 'W' },
+    { 12, 2, 'Y' }, { 13, 2, 'M' }, { 14, 5, 'I' }, { 15, 5, 'Q' },
+};
+static const struct table editions_1059[] = { { NULL, 0 }, TABLE(edition_1), TABLE(edition_2) };
 
 #endif

@@ -105,11 +105,11 @@ uint32_t pv_1059_read(const uint8_t *data, size_t data_len, size_t start, uint8_
                              biases, biases_len, extra, extra_len);
 }
 
-uint32_t pv_1059_write(uint8_t *data, size_t data_len, size_t start, const uint8_t *satellites, size_t satellites_len,
-                       const uint8_t *signals, size_t signals_len, const int16_t *biases, size_t biases_len,
-                       uint64_t *extra, size_t extra_len)
+uint32_t pv_1059_write(uint32_t edition, uint8_t *data, size_t data_len, size_t start, const uint8_t *satellites,
+                       size_t satellites_len, const uint8_t *signals, size_t signals_len, const int16_t *biases,
+                       size_t biases_len, uint64_t *extra, size_t extra_len)
 {
-    return EITHER(1059_write)(data, data_len, start, satellites, satellites_len, signals, signals_len,
+    return EITHER(1059_write)(edition, data, data_len, start, satellites, satellites_len, signals, signals_len,
                               biases, biases_len, extra, extra_len);
 }
 
@@ -133,6 +133,16 @@ uint32_t pv_1230_write(uint8_t *data, size_t data_len, size_t start, const uint8
 float pv_1230_metres(int16_t raw)
 {
     return ref_1230_metres(raw);
+}
+
+uint32_t pv_1059_signal_of(uint32_t edition, uint32_t number, uint64_t *extra, size_t extra_len)
+{
+    return ref_1059_signal_of(edition, number, extra, extra_len);
+}
+
+uint32_t pv_1059_number_of(uint32_t edition, uint32_t band, uint32_t letter, uint64_t *extra, size_t extra_len)
+{
+    return ref_1059_number_of(edition, band, letter, extra, extra_len);
 }
 
 uint32_t pv_signal_of(uint32_t system, uint32_t number, uint64_t *extra, size_t extra_len)

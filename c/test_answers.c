@@ -164,7 +164,7 @@ static void write_block(bool is_1059)
     }
     size_t len = area(data);
     const uint8_t *before = record + at - len;
-    uint32_t refusal = is_1059 ? pv_1059_write(data, len, start, satellites, n, signals, n, biases, n, extra, PV_EXTRA_SIZE)
+    uint32_t refusal = is_1059 ? pv_1059_write(1, data, len, start, satellites, n, signals, n, biases, n, extra, PV_EXTRA_SIZE)
                                : pv_1230_write(data, len, start, signals, n, biases, n, extra, PV_EXTRA_SIZE);
     check_left(refusal, data, len, before);
 }

@@ -169,7 +169,7 @@ static void example_8_and_9(void)
     area_lend(&data, 5, 0);
     lend_1059(1);
     set_1059(0, 5, 0, 100);
-    ACCEPTED(pv_1059_write(DATA, 0, LISTS_1059, EXTRA), 36);
+    ACCEPTED(pv_1059_write(1, DATA, 0, LISTS_1059, EXTRA), 36);
     HAS(data, 0x04, 0x50, 0x80, 0x06, 0x40);
     lend_1059(3);
     ACCEPTED(pv_1059_read(DATA, 0, LISTS_1059, EXTRA), 1, 36);
@@ -549,7 +549,7 @@ static void read_1059_short_places(void)
     lend_1059(4);
     for (size_t i = 0; i < 4; i++)
         set_1059(i, i < 2 ? 3 : 60, 15, -1);
-    ACCEPTED(pv_1059_write(DATA, 0, LISTS_1059, EXTRA), 104);
+    ACCEPTED(pv_1059_write(1, DATA, 0, LISTS_1059, EXTRA), 104);
     memcpy(block, data.bytes, sizeof block);
     for (size_t n = 0; n < sizeof block; n++) {
         size_t place = 0, end = 0;
@@ -597,12 +597,21 @@ static void most_records_1059(void)
     lend_1059(PV_1059_READ_MAX);
     for (size_t i = 0; i < PV_1059_READ_MAX; i++)
         set_1059(i, (unsigned)(i / 31), 11, (int)i);
-    ACCEPTED(pv_1059_write(DATA, 0, LISTS_1059, EXTRA), 6 + 14 * 11 + 422 * 19);
+    ACCEPTED(pv_1059_write(1, DATA, 0, LISTS_1059, EXTRA), 6 + 14 * 11 + 422 * 19);
     area_lend(&data, PV_DATA_MAX, 0);
-    ACCEPTED(pv_1059_write(DATA, 6, LISTS_1059, EXTRA), 6 + 6 + 14 * 11 + 422 * 19);
+    ACCEPTED(pv_1059_write(1, DATA, 6, LISTS_1059, EXTRA), 6 + 6 + 14 * 11 + 422 * 19);
     ACCEPTED(pv_1059_read(DATA, 6, LISTS_1059, EXTRA), 422, 6 + 6 + 14 * 11 + 422 * 19);
     CHECK(satellites.bytes[421] == 13 && area_i16(&biases)[421] == 421);
-    REFUSED(pv_1059_write(DATA, 7, LISTS_1059, EXTRA), PV_ROOM, 6 + 14 * 11 + 422 * 19);
+    REFUSED(pv_1059_write(1, DATA, 7, LISTS_1059, EXTRA), PV_ROOM, 6 + 14 * 11 + 422 * 19);
+}
+
+/* The entry of a number in a table, or null. */
+static const struct signal *find_in(struct table table, uint32_t number)
+{
+    for (size_t i = 0; i < table.count; i++)
+        if (table.entries[i].number == number)
+            return table.entries + i;
+    return NULL;
 }
 
 static void write_1059_faults(void)
@@ -612,42 +621,80 @@ static void write_1059_faults(void)
     set_1059(0, 1, 1, 1);
     set_1059(1, 64, 3, 8192);
     set_1059(2, 64, 3, 8192);
-    REFUSED(pv_1059_write(DATA, SIZE_MAX, LISTS_1059, EXTRA), PV_SATELLITE, 1);
+    REFUSED(pv_1059_write(1, DATA, SIZE_MAX, LISTS_1059, EXTRA), PV_SATELLITE, 1);
     set_1059(1, 63, 3, 8192);
-    REFUSED(pv_1059_write(DATA, 0, LISTS_1059, EXTRA), PV_SIGNAL, 1);
+    REFUSED(pv_1059_write(1, DATA, 0, LISTS_1059, EXTRA), PV_SIGNAL, 1);
     set_1059(1, 63, 2, 8192);
-    REFUSED(pv_1059_write(DATA, 0, LISTS_1059, EXTRA), PV_RANGE, 1);
+    REFUSED(pv_1059_write(1, DATA, 0, LISTS_1059, EXTRA), PV_RANGE, 1);
     set_1059(1, 63, 2, -8193);
-    REFUSED(pv_1059_write(DATA, 0, LISTS_1059, EXTRA), PV_RANGE, 1);
+    REFUSED(pv_1059_write(1, DATA, 0, LISTS_1059, EXTRA), PV_RANGE, 1);
     set_1059(1, 63, 2, -8192);
-    REFUSED(pv_1059_write(DATA, 0, LISTS_1059, EXTRA), PV_SATELLITE, 2);
+    REFUSED(pv_1059_write(1, DATA, 0, LISTS_1059, EXTRA), PV_SATELLITE, 2);
     set_1059(2, 0, 255, 8191);
-    REFUSED(pv_1059_write(DATA, 0, LISTS_1059, EXTRA), PV_SIGNAL, 2);
-    for (unsigned signal = 0; signal < 256; signal++) {
-        set_1059(2, 0, signal, 8191);
-        if (memchr(signals_1059, (int)signal, sizeof signals_1059) != NULL)
-            ACCEPTED(pv_1059_write(DATA, 0, LISTS_1059, EXTRA), 6 + 3 * 30);
-        else
-            REFUSED(pv_1059_write(DATA, 0, LISTS_1059, EXTRA), PV_SIGNAL, 2);
+    REFUSED(pv_1059_write(1, DATA, 0, LISTS_1059, EXTRA), PV_SIGNAL, 2);
+    for (uint32_t edition = 1; edition < 3; edition++) {
+        for (unsigned signal = 0; signal < 256; signal++) {
+            set_1059(2, 0, signal, 8191);
+            if (find_in(editions_1059[edition], signal) != NULL)
+                ACCEPTED(pv_1059_write(edition, DATA, 0, LISTS_1059, EXTRA), 6 + 3 * 30);
+            else
+                REFUSED(pv_1059_write(edition, DATA, 0, LISTS_1059, EXTRA), PV_SIGNAL, 2);
+        }
     }
+}
+
+/* An edition that there is not is refused before all else, whatever else is wrong. */
+static void write_1059_kind(void)
+{
+    static const uint32_t none[] = { 0, 3, 4, 257, 258, UINT32_MAX };
+    for (size_t i = 0; i < sizeof none / sizeof none[0]; i++) {
+        area_lend(&data, 1024, 0xFF);
+        lend_1059(1954);
+        memset(satellites.bytes, 64, 1954);
+        REFUSED(pv_1059_write(none[i], DATA, SIZE_MAX, LISTS_1059, EXTRA), PV_KIND, 0);
+        area_lend(&data, 40, 0xFF);
+        lend_1059(0);
+        REFUSED(pv_1059_write(none[i], DATA, 0, LISTS_1059, EXTRA), PV_KIND, 0);
+    }
+}
+
+/* Edition 2 writes what edition 1 accepts to the same bits, and what only it has besides. */
+static void write_1059_editions(void)
+{
+    uint8_t first[40];
+    area_lend(&data, 40, 0xA5);
+    lend_1059(12);
+    for (size_t i = 0; i < 12; i++)
+        set_1059(i, (unsigned)(i * 7 % 5), edition_1[i].number, (int)i * 600 - 3000);
+    ACCEPTED(pv_1059_write(1, DATA, 3, LISTS_1059, EXTRA), 3 + 6 + 5 * 11 + 12 * 19);
+    memcpy(first, data.bytes, sizeof first);
+    area_lend(&data, 40, 0xA5);
+    ACCEPTED(pv_1059_write(2, DATA, 3, LISTS_1059, EXTRA), 3 + 6 + 5 * 11 + 12 * 19);
+    CHECK(memcmp(first, data.bytes, sizeof first) == 0);
+    lend_1059(1);
+    set_1059(0, 5, 13, 100);
+    REFUSED(pv_1059_write(1, DATA, 0, LISTS_1059, EXTRA), PV_SIGNAL, 0);
+    ACCEPTED(pv_1059_write(2, DATA, 0, LISTS_1059, EXTRA), 36);
+    ACCEPTED(pv_1059_read(DATA, 0, LISTS_1059, EXTRA), 1, 36);
+    CHECK(satellites.bytes[0] == 5 && signals.bytes[0] == 13 && area_i16(&biases)[0] == 100);
 }
 
 static void write_1059_size(void)
 {
     area_lend(&data, 1024, 0xFF);
     lend_1059(0);
-    REFUSED(pv_1059_write(DATA, 0, LISTS_1059, EXTRA), PV_SIZE, 0);
+    REFUSED(pv_1059_write(1, DATA, 0, LISTS_1059, EXTRA), PV_SIZE, 0);
     area_lend(&data, 1023, 0xFF);
     lend_1059(1954);
     memset(satellites.bytes, 64, 1954);
-    REFUSED(pv_1059_write(DATA, 0, LISTS_1059, EXTRA), PV_SIZE, 0);
+    REFUSED(pv_1059_write(1, DATA, 0, LISTS_1059, EXTRA), PV_SIZE, 0);
     lend_1059(1953);
     memset(satellites.bytes, 64, 1953);
-    REFUSED(pv_1059_write(DATA, 0, LISTS_1059, EXTRA), PV_SATELLITE, 0);
+    REFUSED(pv_1059_write(1, DATA, 0, LISTS_1059, EXTRA), PV_SATELLITE, 0);
     area_lend(&satellites, 1952, 64);
-    REFUSED(pv_1059_write(DATA, 0, LISTS_1059, EXTRA), PV_SIZE, 0);
+    REFUSED(pv_1059_write(1, DATA, 0, LISTS_1059, EXTRA), PV_SIZE, 0);
     area_lend(&signals, 1952, 64);
-    REFUSED(pv_1059_write(DATA, 0, LISTS_1059, EXTRA), PV_SIZE, 0);
+    REFUSED(pv_1059_write(1, DATA, 0, LISTS_1059, EXTRA), PV_SIZE, 0);
 }
 
 static void write_1059_too_many(void)
@@ -656,46 +703,46 @@ static void write_1059_too_many(void)
     lend_1059(32 + 32);
     for (size_t i = 0; i < 64; i++)
         set_1059(i, i < 32 ? 40 : 7, 0, 0);
-    REFUSED(pv_1059_write(DATA, SIZE_MAX, LISTS_1059, EXTRA), PV_TOO_MANY, 7);
+    REFUSED(pv_1059_write(1, DATA, SIZE_MAX, LISTS_1059, EXTRA), PV_TOO_MANY, 7);
     set_1059(63, 40, 0, 0);
-    REFUSED(pv_1059_write(DATA, 0, LISTS_1059, EXTRA), PV_TOO_MANY, 40);
+    REFUSED(pv_1059_write(1, DATA, 0, LISTS_1059, EXTRA), PV_TOO_MANY, 40);
     set_1059(62, 0, 0, 0);
     set_1059(63, 0, 0, 0);
     set_1059(0, 0, 0, 0);
-    ACCEPTED(pv_1059_write(DATA, 0, LISTS_1059, EXTRA), 6 + 3 * 11 + 64 * 19);
+    ACCEPTED(pv_1059_write(1, DATA, 0, LISTS_1059, EXTRA), 6 + 3 * 11 + 64 * 19);
 
     lend_1059(64 + 31);
     for (unsigned i = 0; i < 64 + 31; i++)
         set_1059(i, i < 64 ? i : 63, 0, 0);
-    REFUSED(pv_1059_write(DATA, SIZE_MAX, LISTS_1059, EXTRA), PV_TOO_MANY, 63);
+    REFUSED(pv_1059_write(1, DATA, SIZE_MAX, LISTS_1059, EXTRA), PV_TOO_MANY, 63);
     set_1059(94, 62, 0, 0);
-    REFUSED(pv_1059_write(DATA, SIZE_MAX, LISTS_1059, EXTRA), PV_TOO_MANY, 64);
+    REFUSED(pv_1059_write(1, DATA, SIZE_MAX, LISTS_1059, EXTRA), PV_TOO_MANY, 64);
     set_1059(0, 1, 0, 0);
-    ACCEPTED(pv_1059_write(DATA, 0, LISTS_1059, EXTRA), 6 + 63 * 11 + 95 * 19);
+    ACCEPTED(pv_1059_write(1, DATA, 0, LISTS_1059, EXTRA), 6 + 63 * 11 + 95 * 19);
 
     /* 63 satellites with 31 biases each are not too many: they only do not fit. */
     lend_1059(1953);
     for (unsigned i = 0; i < 1953; i++)
         set_1059(i, 1 + i % 63, 0, 0);
-    REFUSED(pv_1059_write(DATA, 0, LISTS_1059, EXTRA), PV_ROOM, 6 + 63 * 11 + 1953 * 19);
+    REFUSED(pv_1059_write(1, DATA, 0, LISTS_1059, EXTRA), PV_ROOM, 6 + 63 * 11 + 1953 * 19);
 }
 
 static void write_1059_room(void)
 {
     lend_1059(0);
     area_lend(&data, 1, 0xFF);
-    ACCEPTED(pv_1059_write(DATA, 2, LISTS_1059, EXTRA), 8);
+    ACCEPTED(pv_1059_write(1, DATA, 2, LISTS_1059, EXTRA), 8);
     HAS(data, 0xC0);
-    REFUSED(pv_1059_write(DATA, 3, LISTS_1059, EXTRA), PV_ROOM, 6);
-    REFUSED(pv_1059_write(DATA, SIZE_MAX, LISTS_1059, EXTRA), PV_ROOM, 6);
-    REFUSED(pv_1059_write(NULL, 0, 0, NULL, 0, NULL, 0, NULL, 0, EXTRA), PV_ROOM, 6);
+    REFUSED(pv_1059_write(1, DATA, 3, LISTS_1059, EXTRA), PV_ROOM, 6);
+    REFUSED(pv_1059_write(1, DATA, SIZE_MAX, LISTS_1059, EXTRA), PV_ROOM, 6);
+    REFUSED(pv_1059_write(1, NULL, 0, 0, NULL, 0, NULL, 0, NULL, 0, EXTRA), PV_ROOM, 6);
     lend_1059(1);
     set_1059(0, 5, 0, 100);
     area_lend(&data, 5, 0xFF);
-    REFUSED(pv_1059_write(DATA, 5, LISTS_1059, EXTRA), PV_ROOM, 36);
-    ACCEPTED(pv_1059_write(DATA, 4, LISTS_1059, EXTRA), 40);
+    REFUSED(pv_1059_write(1, DATA, 5, LISTS_1059, EXTRA), PV_ROOM, 36);
+    ACCEPTED(pv_1059_write(1, DATA, 4, LISTS_1059, EXTRA), 40);
     CHECK(area_same(&satellites) && area_same(&signals) && area_same(&biases));
-    REFUSED(pv_1059_write(DATA, SIZE_MAX - 35, LISTS_1059, EXTRA), PV_ROOM, 36);
+    REFUSED(pv_1059_write(1, DATA, SIZE_MAX - 35, LISTS_1059, EXTRA), PV_ROOM, 36);
 }
 
 /* Satellites go out ascending, the records of one in list order, the same pair twice included. */
@@ -707,7 +754,7 @@ static void write_1059_order(void)
     set_1059(1, 4, 1, 2);
     set_1059(2, 9, 2, 3);
     set_1059(3, 9, 0, 4);
-    ACCEPTED(pv_1059_write(DATA, 11, LISTS_1059, EXTRA), 11 + 6 + 22 + 76);
+    ACCEPTED(pv_1059_write(1, DATA, 11, LISTS_1059, EXTRA), 11 + 6 + 22 + 76);
     ACCEPTED(pv_1059_read(DATA, 11, LISTS_1059, EXTRA), 4, 11 + 6 + 22 + 76);
     CHECK(satellites.bytes[0] == 4 && satellites.bytes[1] == 9 && satellites.bytes[3] == 9);
     CHECK(signals.bytes[0] == 1 && signals.bytes[1] == 2 && signals.bytes[2] == 2 && signals.bytes[3] == 0);
@@ -722,7 +769,9 @@ static void blocks_1059(void)
     read_1059_odd_blocks();
     most_records_1059();
     write_1059_size();
+    write_1059_kind();
     write_1059_faults();
+    write_1059_editions();
     write_1059_too_many();
     write_1059_room();
     write_1059_order();
@@ -835,10 +884,7 @@ static void metres(void)
 /* The entry of a number in a system's table, or null. */
 static const struct signal *find_number(uint32_t system, uint32_t number)
 {
-    for (size_t i = 0; system < sizeof tables / sizeof tables[0] && i < tables[system].count; i++)
-        if (tables[system].entries[i].number == number)
-            return tables[system].entries + i;
-    return NULL;
+    return system < sizeof tables / sizeof tables[0] ? find_in(tables[system], number) : NULL;
 }
 
 static void numbers_to_signals(void)
@@ -861,6 +907,32 @@ static void numbers_to_signals(void)
     ACCEPTED(pv_signal_of(UINT32_MAX, 2, EXTRA), 0);
     ACCEPTED(pv_number_of(PV_GPS, 2, 'D', EXTRA), 0);
     ACCEPTED(pv_number_of(UINT32_MAX, 1, 'C', EXTRA), 0);
+}
+
+static void names_of_1059(void)
+{
+    for (uint32_t edition = 0; edition < 5; edition++) {
+        for (uint32_t number = 0; number < 300; number++) {
+            if (edition < 1 || edition > 2) {
+                REFUSED(pv_1059_signal_of(edition, number, EXTRA), PV_KIND, 0);
+                continue;
+            }
+            const struct signal *signal = find_in(editions_1059[edition], number);
+            if (signal == NULL) {
+                ACCEPTED(pv_1059_signal_of(edition, number, EXTRA), 0);
+                continue;
+            }
+            ACCEPTED(pv_1059_signal_of(edition, number, EXTRA), 1, signal->band, signal->letter);
+            ACCEPTED(pv_1059_number_of(edition, signal->band, signal->letter, EXTRA), 1, number);
+            ACCEPTED(pv_1059_number_of(edition, signal->band + 256, signal->letter, EXTRA), 0);
+            ACCEPTED(pv_1059_number_of(edition, signal->band, signal->letter + 256, EXTRA), 0);
+        }
+    }
+    ACCEPTED(pv_1059_number_of(1, 1, 'Y', EXTRA), 0);
+    ACCEPTED(pv_1059_number_of(2, 1, 'Y', EXTRA), 1, 3);
+    REFUSED(pv_1059_number_of(0, 1, 'C', EXTRA), PV_KIND, 0);
+    REFUSED(pv_1059_number_of(UINT32_MAX, 1, 'C', EXTRA), PV_KIND, 0);
+    REFUSED(pv_1059_signal_of(257, 0, EXTRA), PV_KIND, 0);
 }
 
 static size_t entries_of(uint32_t system)
@@ -899,6 +971,7 @@ static void signal_tables(void)
 {
     static const size_t counts[] = { 15, 4, 19, 4, 13, 16, 2, 0 };
     numbers_to_signals();
+    names_of_1059();
     area_lend(&extra, 64, 0);
     for (uint32_t system = 0; system < 8; system++)
         CHECK_EQ(entries_of(system), counts[system]);
@@ -1091,7 +1164,7 @@ static void settings(void)
 
 /* ---- The extra area of another size. ---- */
 
-#define CALLS 18
+#define CALLS 20
 
 static uint32_t call_number(unsigned call, uint64_t *numbers, size_t n)
 {
@@ -1106,13 +1179,15 @@ static uint32_t call_number(unsigned call, uint64_t *numbers, size_t n)
     case 7: return pv_frame_write(DATA, OUT, numbers, n);
     case 8: return pv_feed(held.bytes, held.size, 3, piece.bytes, piece.size, OUT, numbers, n);
     case 9: return pv_1059_read(DATA, 0, LISTS_1059, numbers, n);
-    case 10: return pv_1059_write(DATA, 0, LISTS_1059, numbers, n);
+    case 10: return pv_1059_write(1, DATA, 0, LISTS_1059, numbers, n);
     case 11: return pv_1230_read(DATA, 0, LISTS_1230, numbers, n);
     case 12: return pv_1230_write(DATA, 0, LISTS_1230, numbers, n);
     case 13: return pv_signal_of(0, 2, numbers, n);
     case 14: return pv_number_of(0, 1, 'C', numbers, n);
     case 15: return pv_signal_order(0, 1, 'C', 1, 'P', numbers, n);
     case 16: return pv_differing(DATA, DATA, numbers, n);
+    case 17: return pv_1059_signal_of(1, 2, numbers, n);
+    case 18: return pv_1059_number_of(1, 1, 'C', numbers, n);
     default: return pv_settings_write(1, 0, NULL, 0, NULL, 0, OUT, numbers, n);
     }
 }

@@ -539,9 +539,15 @@ static void random_records(void)
     for (size_t i = 0; i < satellites.ours.size; i++)
         set_byte(&satellites, i, faulty && one_in(20) ? below(256) : below(spread));
     for (size_t i = 0; i < signals.ours.size; i++)
-        set_byte(&signals, i, faulty && one_in(20) ? below(40) : signals_1059[below(sizeof signals_1059)]);
+        set_byte(&signals, i, faulty && one_in(20) ? below(40) : edition_2[below(sizeof edition_2 / sizeof edition_2[0])].number);
     for (size_t i = 0; i < biases.ours.size / 2; i++)
         set_bias(i, (int64_t)below(16384) - 8192 + (faulty && one_in(20) ? 8192 : 0));
+}
+
+/* Mostly 2, which has every signal of the records. */
+static uint32_t random_edition(void)
+{
+    return one_in(30) ? (uint32_t)random64() : one_in(30) ? (uint32_t)below(4) : one_in(8) ? 1 : 2;
 }
 
 static void try_1059_write(void)
@@ -551,10 +557,11 @@ static void try_1059_write(void)
     lend_lists(n, 1);
     random_records();
     size_t start = one_in(2) ? below(20) : random_start(data.ours.size, 6 + 30 * n);
+    uint32_t edition = random_edition();
     lend_extra();
     compare("pv_1059_write",
-            pv_1059_write(OURS(data), start, OURS(satellites), OURS(signals), OUR_BIASES, OUR_EXTRA),
-            ref_1059_write(THEIRS(data), start, THEIRS(satellites), THEIRS(signals), THEIR_BIASES, THEIR_EXTRA));
+            pv_1059_write(edition, OURS(data), start, OURS(satellites), OURS(signals), OUR_BIASES, OUR_EXTRA),
+            ref_1059_write(edition, THEIRS(data), start, THEIRS(satellites), THEIRS(signals), THEIR_BIASES, THEIR_EXTRA));
 }
 
 static void try_1230_read(void)
@@ -596,6 +603,13 @@ static void try_signals(void)
     uint32_t system = (uint32_t)(one_in(30) ? random64() : below(8));
     uint32_t number = (uint32_t)(one_in(30) ? random64() : below(40));
     uint32_t band_a = random_band(), letter_a = random_letter(), band_b = random_band(), letter_b = random_letter();
+    lend_extra();
+    uint32_t edition = one_in(2) ? 1 : random_edition();
+    compare("pv_1059_signal_of", pv_1059_signal_of(edition, number, OUR_EXTRA),
+            ref_1059_signal_of(edition, number, THEIR_EXTRA));
+    lend_extra();
+    compare("pv_1059_number_of", pv_1059_number_of(edition, band_a, letter_a, OUR_EXTRA),
+            ref_1059_number_of(edition, band_a, letter_a, THEIR_EXTRA));
     lend_extra();
     compare("pv_signal_of", pv_signal_of(system, number, OUR_EXTRA), ref_signal_of(system, number, THEIR_EXTRA));
     lend_extra();

@@ -140,7 +140,7 @@ static void visit_1059(const uint8_t *frame, size_t data_len, size_t place)
     messages_1059++;
     records_1059 += n;
     turn_block(copy, frame + 3, data_len, BLOCK_1059_START, end);
-    CHECK_EQ(pv_1059_write(copy, data_len, BLOCK_1059_START, satellites, n, signals, n, biases, n, extra, PV_EXTRA_SIZE),
+    CHECK_EQ(pv_1059_write(1, copy, data_len, BLOCK_1059_START, satellites, n, signals, n, biases, n, extra, PV_EXTRA_SIZE),
              PV_ACCEPTED);
     CHECK_EQ(extra[PV_AT_WRITTEN_END], end);
     CHECK(memcmp(copy, frame + 3, data_len) == 0);

@@ -279,18 +279,34 @@ uint32_t pv_1059_read(const uint8_t *data, size_t data_len, size_t start, uint8_
 /*
  * Writes the block of at most 1,953 records, in any order, from bit `start` of the data on. Bits outside the block stay
  * as they are. Satellites go out ascending, the records of one satellite in the order of the list, the same signal twice
- * included. Signals: 0 1C, 1 1P, 2 1W, 5 2C, 6 2D, 7 2S, 8 2L, 9 2X, 10 2P, 11 2W, 14 5I, 15 5Q; the rest are reserved.
+ * included. The caller chooses the edition of the signals. Edition 1: 0 1C, 1 1P, 2 1W, 5 2C, 6 2D, 7 2S, 8 2L, 9 2X,
+ * 10 2P, 11 2W, 14 5I, 15 5Q; the rest are reserved. Edition 2 adds 3 1Y, 4 1M, 12 2Y, 13 2M. What edition 1 accepts,
+ * edition 2 writes to the same bits. Reading takes no edition.
  *
- * Refuses, in this order: PV_SIZE (data above 1,023 bytes, lists of unequal length or above 1,953); then the first faulty
- * record and, for it, PV_SATELLITE (above 63), PV_SIGNAL (reserved), PV_RANGE (bias outside -8192 to 8191), each
+ * Refuses, in this order: PV_KIND (an edition other than 1 and 2); PV_SIZE (data above 1,023 bytes, lists of unequal
+ * length or above 1,953); then the first faulty record and, for it, PV_SATELLITE (above 63), PV_SIGNAL (not a signal of
+ * the edition), PV_RANGE (bias outside -8192 to 8191), each
  * carrying its index; PV_TOO_MANY (over 31 biases of one satellite: carries the lowest such satellite; else 64 different
  * satellites: carries 64); PV_ROOM (the block reaches past the data; carries the bits of the whole block). An empty list
  * is a block of 6 bits.
  * Answers: [PV_AT_WRITTEN_END] the bit behind the block.
  */
-uint32_t pv_1059_write(uint8_t *data, size_t data_len, size_t start, const uint8_t *satellites, size_t satellites_len,
-                       const uint8_t *signals, size_t signals_len, const int16_t *biases, size_t biases_len,
-                       uint64_t *extra, size_t extra_len);
+uint32_t pv_1059_write(uint32_t edition, uint8_t *data, size_t data_len, size_t start, const uint8_t *satellites,
+                       size_t satellites_len, const uint8_t *signals, size_t signals_len, const int16_t *biases,
+                       size_t biases_len, uint64_t *extra, size_t extra_len);
+
+/*
+ * The signal that a number stands for in an edition of the 1059 signals, 1 or 2. Refuses PV_KIND (any other edition).
+ * Answers: [PV_AT_SIGNAL_FOUND] 1 if it is in the edition's table, else 0; [PV_AT_SIGNAL_BAND]; [PV_AT_SIGNAL_LETTER].
+ */
+uint32_t pv_1059_signal_of(uint32_t edition, uint32_t number, uint64_t *extra, size_t extra_len);
+
+/*
+ * The number of a signal in an edition of the 1059 signals, as in 2, 1, 'Y'. A band or a letter above 255 is in no table.
+ * Refuses PV_KIND (an edition other than 1 and 2).
+ * Answers: [PV_AT_NUMBER_FOUND] 1 if it is in the edition's table, else 0; [PV_AT_NUMBER] the number.
+ */
+uint32_t pv_1059_number_of(uint32_t edition, uint32_t band, uint32_t letter, uint64_t *extra, size_t extra_len);
 
 /* A raw 1059 bias in metres: the number as a float times 0.01f, rounded once. */
 float pv_1059_metres(int16_t raw);

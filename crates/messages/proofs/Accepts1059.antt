@@ -8,7 +8,7 @@ use borrow.Author.Tests.{ltb-false, le-ltb, eqb-true, eqb-false, eq-eqb, ne-eqb,
 use lib.ListN.{length}
 use lib.IntN.{ℤ}
 use lib.Dec.{eqb, ltb}
-use Rattle.bits.specs.Told.{Accepted, tooMany}
+use Rattle.bits.specs.Told.{Accepted, andThen, tooMany}
 use Rattle.bits.specs.Signed.{fitsTwos}
 use Rattle.bits.specs.Outcome.{outcome}
 use Rattle.bits.specs.Fields.{total, putAll, Fit}
@@ -16,7 +16,7 @@ use Rattle.bits.proofs.FieldsLaws.{fit-append}
 use Rattle.bits.proofs.SignedLaws.{twos-bits-lt}
 use Rattle.messages.specs.Every.{Every}
 use Rattle.messages.specs.Records.{Rec1059, rec1059, satelliteOf, signalOf1059, biasOf1059, records1059}
-use Rattle.messages.specs.Signals1059.{isSignal1059}
+use Rattle.messages.specs.Signals1059.{isEdition, knownEdition, isSignal1059}
 use Rattle.messages.specs.Writer.{fine, firstFault, keep}
 use Rattle.messages.specs.Write1059.{fault1059, crowded, present, fields1059, refusedRecords1059, refused1059, write1059, ofSatellite, biasFields, satelliteFields, satellitesFrom}
 use Rattle.messages.proofs.AcceptLaws.{then-accepted, not-refused}
@@ -80,8 +80,13 @@ module _ (e : ℕ) (rs : List Rec1059) where
 
 -- ---- the call
 
+pub edition-known : (e : ℕ) → isEdition e ≡ true → knownEdition e ≡ fine
+unfolding knownEdition
+edition-known e h = rw h
+
 module _ (e : ℕ) (s : List ℕ) (p : ℕ) (sats gs : List ℕ) (zs : List ℤ) where
   pub record Writes : Type 0 where
+    pub edition : knownEdition e ≡ fine
     pub few : length s ≤ 1023
     pub signals : length sats ≡ length gs
     pub biases : length sats ≡ length zs
@@ -89,25 +94,27 @@ module _ (e : ℕ) (s : List ℕ) (p : ℕ) (sats gs : List ℕ) (zs : List ℤ)
     pub records : Fine e (records1059 sats gs zs)
     pub within : p + total (fields1059 (records1059 sats gs zs)) ≤ length s * 8
 
-  nothing-refused : Writes → refused1059 e (length s) sats gs zs ≡ fine
+  nothing-refused : Writes → andThen (knownEdition e) (λ u. refused1059 e (length s) sats gs zs) ≡ fine
   unfolding refused1059
   nothing-refused w =
-      rw (le-ltb 1023 (length s) (w .few), eq-eqb (length sats) (length gs) (w .signals), eq-eqb (length sats) (length zs) (w .biases), le-ltb 1953 (length sats) (w .most))
+      rw (w .edition, le-ltb 1023 (length s) (w .few), eq-eqb (length sats) (length gs) (w .signals), eq-eqb (length sats) (length zs) (w .biases), le-ltb 1953 (length sats) (w .most))
       (records-fine e (records1059 sats gs zs) (w .records))
 
   pub call-written : Writes → write1059 e s p sats gs zs ≡ outcome (Accepted (p + total (fields1059 (records1059 sats gs zs)))) (putAll s p (fields1059 (records1059 sats gs zs)))
   unfolding write1059
-  call-written w = run-put (refused1059 e (length s) sats gs zs) s p (fields1059 (records1059 sats gs zs)) (nothing-refused w) (w .within)
+  call-written w = run-put _ s p (fields1059 (records1059 sats gs zs)) (nothing-refused w) (w .within)
 
   pub call-accepted : {q : ℕ} → write1059 e s p sats gs zs .answer ≡ Accepted q → Writes
   unfolding write1059 refused1059
   call-accepted h =
-      let r = run-accepted (refused1059 e (length s) sats gs zs) s p (fields1059 (records1059 sats gs zs)) h in
-      let a = not-refused 9 [] (ltb 1023 (length s)) _ (r .0) in
+      let r = run-accepted _ s p (fields1059 (records1059 sats gs zs)) h in
+      let k = then-accepted (knownEdition e) (λ u. refused1059 e (length s) sats gs zs) (r .0) in
+      let a = not-refused 9 [] (ltb 1023 (length s)) _ (k .2) in
       let b = not-refused 9 [] (not (eqb (length sats) (length gs))) _ (a .1) in
       let c = not-refused 9 [] (not (eqb (length sats) (length zs))) _ (b .1) in
       let d = not-refused 9 [] (ltb 1953 (length sats)) _ (c .1) in
       record {
+        edition = k .1;
         few = ltb-false 1023 (length s) (a .0);
         signals = eqb-true (length sats) (length gs) (not-false (eqb (length sats) (length gs)) (b .0));
         biases = eqb-true (length sats) (length zs) (not-false (eqb (length sats) (length zs)) (c .0));

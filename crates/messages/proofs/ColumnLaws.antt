@@ -8,8 +8,9 @@ use native.Mathlib.Numerals.{add-one}
 use lib.ListN.{List·getD-eq-default, length, getD, drop}
 use lib.Dec.{eqb}
 use lib.Seq.{drop-cons, drop-length}
+use Rattle.bits.specs.Told.{Accepted, kind}
 use Rattle.messages.specs.Signals.{sig, Entry, entry, At, None, signalOf, numberOf, tables, tableOf}
-use Rattle.messages.specs.Signals1059.{signals1059}
+use Rattle.messages.specs.Signals1059.{isEdition, signals1059, namedSignal1059, namedNumber1059}
 use Rattle.messages.specs.Columns.{has, lineOf, signalAt, numberAt, Even, entries}
 use Rattle.messages.specs.declared.signals.Wanted.{Wanted}
 use Rattle.messages.specs.declared.signals.Wanted.the-variants.{Number, Signal}
@@ -94,8 +95,28 @@ unfolding tableOf
 no-table s a b c d e f g = List·getD-eq-default tables [] (from-seven s (from-four s a b c d) e f g)
 
 -- any other edition has an empty table
-pub no-edition : (edition : ℕ) → (edition ≡ 1 → ⊥) → signals1059 edition ≡ []
+pub no-edition : (edition : ℕ) → (edition ≡ 1 → ⊥) → (edition ≡ 2 → ⊥) → signals1059 edition ≡ []
 unfolding signals1059
-no-edition zero h = refl
-no-edition (suc zero) h = absurd (h refl)
-no-edition (suc (suc e)) h = refl
+no-edition zero g h = refl
+no-edition (suc zero) g h = absurd (g refl)
+no-edition (suc (suc zero)) g h = absurd (h refl)
+no-edition (suc (suc (suc e))) g h = refl
+
+-- ---- looking up by edition
+
+module _ (edition : ℕ) where
+  pub not-named : (n : ℕ) → isEdition edition ≡ false → kind ≡ namedSignal1059 edition n
+  unfolding namedSignal1059
+  not-named n e = rw e
+
+  pub named : (n : ℕ) → isEdition edition ≡ true → Accepted (signalAt (lineOf (signals1059 edition) (Number n))) ≡ namedSignal1059 edition n
+  unfolding namedSignal1059
+  named n e = rw (e, signal-by-line)
+
+  pub not-numbered : (band letter : ℕ) → isEdition edition ≡ false → kind ≡ namedNumber1059 edition (sig band letter)
+  unfolding namedNumber1059
+  not-numbered band letter e = rw e
+
+  pub numbered : (band letter : ℕ) → isEdition edition ≡ true → Accepted (numberAt (lineOf (signals1059 edition) (Signal band letter))) ≡ namedNumber1059 edition (sig band letter)
+  unfolding namedNumber1059
+  numbered band letter e = rw (e, number-by-line)

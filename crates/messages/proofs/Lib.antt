@@ -16,6 +16,7 @@ pub mod Biases1059
 pub mod Satellites1059Laws
 pub mod AscendingLaws
 pub mod Accepts1059
+pub mod EditionLaws
 pub mod ReadBack1059
 pub mod SameBits1059
 pub mod Biases1230

@@ -1,6 +1,5 @@
 -- For each public function: two answers that its statement allows are equal, and so are the lent areas that two runs leave. Assumes nothing.
 use mathlib.Core.Path.{_≡_, sym, _∙_}
-use mathlib.Core.Bool.{Bool}
 use mathlib.Core.List.{List}
 use Prim.Native.Nat.{ℕ}
 use lib.IntN.{ℤ}
@@ -8,19 +7,22 @@ use lib.Ieee.{Float}
 use Rattle.bits.specs.Outcome.{outcome}
 use Rattle.messages.specs.Signals.{sig, signalOf, numberOf, tableOf}
 use Rattle.messages.specs.SignalOrder.{order}
-use Rattle.messages.specs.Signals1059.{signals1059, isSignal1059}
+use Rattle.messages.specs.Signals1059.{namedSignal1059, namedNumber1059}
 use Rattle.messages.specs.Metres.{metres1059, metres1230}
 use Rattle.messages.specs.Read1059.{outcome1059, read1059}
 use Rattle.messages.specs.Read1230.{outcome1230, read1230}
 use Rattle.messages.specs.Write1059.{write1059}
 use Rattle.messages.specs.Write1230.{write1230}
-use Rattle.messages.specs.Answers.{foundSignal, foundNumber, toldOrder, toldRead, toldBlock}
+use Rattle.messages.specs.Answers.{foundSignal, foundNumber, toldSignal, toldNumber, toldOrder, toldRead, toldBlock}
 use Rattle.messages.specs.declared.signals.SignalFound.{SignalFound}
 use Rattle.messages.specs.declared.signals.NumberFound.{NumberFound}
+use Rattle.messages.specs.declared.signals1059.Signal1059.{Signal1059}
+use Rattle.messages.specs.declared.signals1059.Number1059.{Number1059}
 use Rattle.messages.specs.declared.signals.Order.{Order}
 use Rattle.messages.specs.declared.answer.BlockRead.{BlockRead}
 use Rattle.messages.specs.declared.answer.BlockWritten.{BlockWritten}
-use Rattle.messages.proofs.ToldLaws.{same-signal-found, same-number-found, same-order, only-read1059, only-read1230, only-block}
+use Rattle.bits.proofs.ToldLaws.{only}
+use Rattle.messages.proofs.ToldLaws.{signal-one-to-one, number-one-to-one, same-signal-found, same-number-found, same-order, only-read1059, only-read1230, only-block}
 
 -- ---- signals
 
@@ -35,12 +37,12 @@ pub only-compare : (system band1 letter1 band2 letter2 : ℕ) {x y : Order} → 
     → toldOrder y ≡ order (tableOf system) (sig band1 letter1) (sig band2 letter2) → x ≡ y
 only-compare system band1 letter1 band2 letter2 p q = same-order _ _ (p ∙ sym q)
 
-pub only-signal-of-1059 : (edition number : ℕ) {x y : SignalFound} → foundSignal x ≡ signalOf (signals1059 edition) number
-    → foundSignal y ≡ signalOf (signals1059 edition) number → x ≡ y
-only-signal-of-1059 edition number p q = same-signal-found _ _ (p ∙ sym q)
+pub only-signal-of-1059 : (edition number : ℕ) {x y : Signal1059} → toldSignal x ≡ namedSignal1059 edition number → toldSignal y ≡ namedSignal1059 edition number → x ≡ y
+only-signal-of-1059 edition number = only toldSignal signal-one-to-one (namedSignal1059 edition number)
 
-pub only-is-signal-1059 : (edition number : ℕ) {x y : Bool} → x ≡ isSignal1059 edition number → y ≡ isSignal1059 edition number → x ≡ y
-only-is-signal-1059 edition number p q = p ∙ sym q
+pub only-number-of-1059 : (edition band letter : ℕ) {x y : Number1059} → toldNumber x ≡ namedNumber1059 edition (sig band letter)
+    → toldNumber y ≡ namedNumber1059 edition (sig band letter) → x ≡ y
+only-number-of-1059 edition band letter = only toldNumber number-one-to-one (namedNumber1059 edition (sig band letter))
 
 -- ---- raw biases
 

@@ -20,7 +20,7 @@ use Rattle.messages.proofs.Biases1059.{Own}
 use Rattle.messages.proofs.Satellites1059Laws.{Sound, satFields, block-stands}
 use Rattle.messages.proofs.ExtentLaws.{taken}
 use Rattle.messages.proofs.AscendingLaws.{laid}
-use Rattle.messages.proofs.Accepts1059.{Writable, Writes, call-written}
+use Rattle.messages.proofs.Accepts1059.{Writable, Writes, edition-known, call-written}
 use Rattle.messages.proofs.StandLaws.{put-back}
 
 -- the columns of records are records again
@@ -59,6 +59,7 @@ module _ (e : ℕ) where
       let stands : Holds s p (fields1059 rs) = rw f (b .holds) in
       let w : Writes e t r (map satelliteOf rs) (map signalOf1059 rs) (map biasOf1059 rs) =
       record {
+        edition = edition-known e (regular .known);
         few = few;
         signals = length-map rs satelliteOf ∙ sym (length-map rs signalOf1059);
         biases = length-map rs satelliteOf ∙ sym (length-map rs biasOf1059);

@@ -8,7 +8,7 @@ use native.Mathlib.Omega.{arith}
 use borrow.Author.Tests.{ltb-true, ltb-false, le-ltb, ne-eqb}
 use lib.Dec.{T, ltb, ltb→lt}
 use Rattle.messages.specs.Signals.{Entry, entry, isAt, signalOf}
-use Rattle.messages.specs.Signals1059.{edition1, editions, signals1059, isSignal1059}
+use Rattle.messages.specs.Signals1059.{edition1, edition2, editions, signals1059, isSignal1059}
 use Rattle.messages.specs.Columns.{maskOf, inMask}
 use Rattle.messages.proofs.TestLaws.{left, right, all, all-place, below, below-place}
 
@@ -25,7 +25,7 @@ good t = all narrow t && below (tells t) 32
 
 -- the test over all editions
 good-editions : T (all good editions)
-unfolding edition1 maskOf inMask signalOf
+unfolding edition1 edition2 maskOf inMask signalOf
 good-editions = tt
 
 good-edition : (edition : ℕ) → T (good (signals1059 edition))

@@ -10,14 +10,19 @@ use Rattle.bits.specs.Told.{Told, Accepted, Refused, OneToOne}
 use Rattle.bits.specs.Outcome.{Outcome, outcome}
 use Rattle.bits.proofs.OutcomeLaws.{only-outcome}
 use Rattle.bits.proofs.ToldLaws.{found-again}
+use Rattle.messages.specs.Signals.{Signal, sig, Found, At, None}
 use Rattle.messages.specs.Records.{Counted}
 use Rattle.messages.specs.Read1059.{Read1059, outcome1059}
 use Rattle.messages.specs.Read1230.{Read1230, outcome1230}
-use Rattle.messages.specs.Answers.{foundSignal, foundNumber, toldOrder, toldRead, toldBlock}
+use Rattle.messages.specs.Answers.{foundSignal, foundNumber, toldSignal, toldNumber, toldOrder, toldRead, toldBlock}
 use Rattle.messages.specs.declared.signals.SignalFound.{SignalFound}
 use Rattle.messages.specs.declared.signals.SignalFound.the-variants as S
 use Rattle.messages.specs.declared.signals.NumberFound.{NumberFound}
 use Rattle.messages.specs.declared.signals.NumberFound.the-variants as N
+use Rattle.messages.specs.declared.signals1059.Signal1059.{Signal1059}
+use Rattle.messages.specs.declared.signals1059.Signal1059.the-variants as E
+use Rattle.messages.specs.declared.signals1059.Number1059.{Number1059}
+use Rattle.messages.specs.declared.signals1059.Number1059.the-variants as M
 use Rattle.messages.specs.declared.signals.Order.{Order}
 use Rattle.messages.specs.declared.signals.Order.the-variants as O
 use Rattle.messages.specs.declared.answer.BlockRead.{BlockRead}
@@ -49,6 +54,36 @@ same-order O.Equal O.Greater e = cc
 same-order O.Greater O.Less e = cc
 same-order O.Greater O.Equal e = cc
 same-order O.Greater O.Greater e = refl
+
+-- ---- signals and numbers of an edition
+
+signal : Told (Found Signal) → Signal1059
+signal (Accepted (At (sig band letter))) = E.At band letter
+signal (Accepted None) = E.None
+signal (Refused n carried) = E.Kind
+
+signal-again : (x : Signal1059) → signal (toldSignal x) ≡ x
+unfolding signal
+signal-again (E.At band letter) = refl
+signal-again E.None = refl
+signal-again E.Kind = refl
+
+pub signal-one-to-one : OneToOne toldSignal
+signal-one-to-one = found-again toldSignal signal signal-again
+
+number : Told (Found ℕ) → Number1059
+number (Accepted (At n)) = M.At n
+number (Accepted None) = M.None
+number (Refused n carried) = M.Kind
+
+number-again : (x : Number1059) → number (toldNumber x) ≡ x
+unfolding number
+number-again (M.At n) = refl
+number-again M.None = refl
+number-again M.Kind = refl
+
+pub number-one-to-one : OneToOne toldNumber
+number-one-to-one = found-again toldNumber number number-again
 
 -- ---- reading a block
 
@@ -90,7 +125,8 @@ block (Refused n carried) =
     (cond (eqb n 3) (W.Range (getD carried 0 0))
     (cond (eqb n 6) (W.TooMany (getD carried 0 0))
     (cond (eqb n 7) (W.Duplicate (getD carried 0 0))
-    (W.Room (getD carried 0 0)))))))
+    (cond (eqb n 13) W.Kind
+    (W.Room (getD carried 0 0))))))))
 
 block-again : (x : BlockWritten) → block (toldBlock x) ≡ x
 unfolding block
@@ -102,6 +138,7 @@ block-again (W.Range i) = refl
 block-again (W.TooMany a) = refl
 block-again (W.Duplicate i) = refl
 block-again (W.Room n) = refl
+block-again W.Kind = refl
 
 pub block-one-to-one : OneToOne toldBlock
 block-one-to-one = found-again toldBlock block block-again

@@ -7,7 +7,7 @@ use native.Mathlib.Omega.{arith}
 use borrow.Author.Tests.{eqb-true}
 use lib.Dec.{T, eqb, eqb→eq}
 use Rattle.messages.specs.Signals.{Signal, sig, Entry, entry, Found, At, None, signalOf, numberOf, Undoes, tables, tableOf, gps, glo, gal, sbas, qzss, bds, navic}
-use Rattle.messages.specs.Signals1059.{edition1, editions, signals1059}
+use Rattle.messages.specs.Signals1059.{edition1, edition2, editions, signals1059}
 use Rattle.messages.proofs.TestLaws.{left, right, all, all-member, all-place}
 
 -- ---- the test
@@ -30,7 +30,7 @@ undoing t = all (undone t) t
 
 -- the test over every entry of every table: of the seven systems, and of the editions of the 1059 signals
 every-entry : T (all undoing tables && all undoing editions)
-unfolding gps glo gal sbas qzss bds navic edition1 signalOf numberOf
+unfolding gps glo gal sbas qzss bds navic edition1 edition2 signalOf numberOf
 every-entry = tt
 
 -- ---- number to signal and signal to number undo each other at each entry

@@ -1,20 +1,21 @@
 -- Which answer writing the 1059 block gives: by its sizes and faults, and of records without a fault by the counts of their satellites. Assumes nothing.
 use mathlib.Core.Path.{_≡_, refl, sym, ap, ap₂, _∙_}
 use mathlib.Core.List.{List, [], _∷_, _++_, append-nil}
-use mathlib.Core.Bool.{Bool, cond}
+use mathlib.Core.Bool.{Bool, true, false, cond}
 use Prim.Native.Nat.{ℕ, _≤_, _<_, _+_, _*_}
 use native.Mathlib.Omega.{arith}
 use borrow.Author.Tests.{lt-ltb, le-ltb, eq-eqb, ne-eqb}
 use lib.ListN.{length, getD}
 use lib.IntN.{ℤ}
 use lib.Dec.{ltb}
-use Rattle.bits.specs.Told.{Told, Refused, size, tooMany, Accepted, room}
+use Rattle.bits.specs.Told.{Told, Refused, size, tooMany, Accepted, room, kind}
 use Rattle.bits.specs.Outcome.{outcome}
 use Rattle.bits.specs.Fields.{bits, total, putAll}
 use Rattle.messages.specs.Records.{Rec1059, records1059}
+use Rattle.messages.specs.Signals1059.{isEdition, knownEdition}
 use Rattle.messages.specs.Writer.{fine, firstFault, writeRun}
 use Rattle.messages.specs.Write1059.{fault1059, crowded, present, fields1059, refusedRecords1059, refused1059, write1059, ofSatellite, satellitesFrom}
-use Rattle.messages.specs.WriteSteps1059.{refusedSound, writeSound, Sound, Linked, crowdedIn, presentIn}
+use Rattle.messages.specs.WriteSteps1059.{refusedSound, writeSound, writeKnown, Sound, Linked, crowdedIn, presentIn}
 use Rattle.messages.specs.Put.{Fits, Did}
 use Rattle.messages.proofs.PutLaws.{Left, left-all, left-as, left-fits, left-put, left-none}
 use Rattle.messages.proofs.WriterLaws.{run-refused, run-put, run-room}
@@ -111,26 +112,26 @@ module _ (s : List ℕ) (p : ℕ) (sats gs : List ℕ) (zs : List ℤ) (d : Soun
 -- ---- the call
 
 module _ (edition : ℕ) (s : List ℕ) (p : ℕ) (sats gs : List ℕ) (zs : List ℤ) where
-  refusal : {n : ℕ} {carried : List ℕ} → refused1059 edition (length s) sats gs zs ≡ Refused n carried → outcome (Refused n carried) s ≡ write1059 edition s p sats gs zs
-  unfolding write1059
+  refusal : {n : ℕ} {carried : List ℕ} → refused1059 edition (length s) sats gs zs ≡ Refused n carried → outcome (Refused n carried) s ≡ writeKnown edition s p sats gs zs
+  unfolding writeKnown
   refusal e = run-refused (refused1059 edition (length s) sats gs zs) s p (fields1059 (records1059 sats gs zs)) e
 
-  pub long-data : 1023 < length s → outcome size s ≡ write1059 edition s p sats gs zs
+  pub long-data : 1023 < length s → outcome size s ≡ writeKnown edition s p sats gs zs
   unfolding refused1059
   long-data h = refusal (rw (lt-ltb 1023 (length s) h))
 
   module _ (h : length s ≤ 1023) where
-    pub uneven-signals : (length sats ≡ length gs → ⊥) → outcome size s ≡ write1059 edition s p sats gs zs
+    pub uneven-signals : (length sats ≡ length gs → ⊥) → outcome size s ≡ writeKnown edition s p sats gs zs
     unfolding refused1059
     uneven-signals d = refusal (rw (le-ltb 1023 (length s) h, ne-eqb (length sats) (length gs) d))
 
     module _ (lg : length sats ≡ length gs) where
-      pub uneven-biases : (length sats ≡ length zs → ⊥) → outcome size s ≡ write1059 edition s p sats gs zs
+      pub uneven-biases : (length sats ≡ length zs → ⊥) → outcome size s ≡ writeKnown edition s p sats gs zs
       unfolding refused1059
       uneven-biases d = refusal (rw (le-ltb 1023 (length s) h, eq-eqb (length sats) (length gs) lg, ne-eqb (length sats) (length zs) d))
 
       module _ (lz : length sats ≡ length zs) where
-        pub many-records : 1953 < length sats → outcome size s ≡ write1059 edition s p sats gs zs
+        pub many-records : 1953 < length sats → outcome size s ≡ writeKnown edition s p sats gs zs
         unfolding refused1059
         many-records m = refusal (rw (le-ltb 1023 (length s) h, eq-eqb (length sats) (length gs) lg, eq-eqb (length sats) (length zs) lz, lt-ltb 1953 (length sats) m))
 
@@ -140,10 +141,20 @@ module _ (edition : ℕ) (s : List ℕ) (p : ℕ) (sats gs : List ℕ) (zs : Lis
           by-records = rw (le-ltb 1023 (length s) h, eq-eqb (length sats) (length gs) lg, eq-eqb (length sats) (length zs) lz, le-ltb 1953 (length sats) m)
 
           pub some-fault : {n : ℕ} {carried : List ℕ} → firstFault (fault1059 edition) 0 (records1059 sats gs zs) ≡ Refused n carried
-              → outcome (Refused n carried) s ≡ write1059 edition s p sats gs zs
+              → outcome (Refused n carried) s ≡ writeKnown edition s p sats gs zs
           unfolding refusedRecords1059
           some-fault e = refusal (rw (by-records, e))
 
-          pub no-fault : firstFault (fault1059 edition) 0 (records1059 sats gs zs) ≡ fine → writeSound s p (records1059 sats gs zs) ≡ write1059 edition s p sats gs zs
-          unfolding write1059 writeSound refusedSound refusedRecords1059
+          pub no-fault : firstFault (fault1059 edition) 0 (records1059 sats gs zs) ≡ fine → writeSound s p (records1059 sats gs zs) ≡ writeKnown edition s p sats gs zs
+          unfolding writeKnown writeSound refusedSound refusedRecords1059
           no-fault e = ap (λ (t : Told Unit). writeRun t s p (fields1059 (records1059 sats gs zs))) (sym (by-records ∙ rw e))
+
+-- ---- and of any edition
+
+pub no-edition : (edition : ℕ) (s : List ℕ) (p : ℕ) (sats gs : List ℕ) (zs : List ℤ) → isEdition edition ≡ false → outcome kind s ≡ write1059 edition s p sats gs zs
+unfolding write1059 knownEdition
+no-edition edition s p sats gs zs e = run-refused _ s p (fields1059 (records1059 sats gs zs)) (rw e)
+
+pub an-edition : (edition : ℕ) (s : List ℕ) (p : ℕ) (sats gs : List ℕ) (zs : List ℤ) → isEdition edition ≡ true → writeKnown edition s p sats gs zs ≡ write1059 edition s p sats gs zs
+unfolding write1059 writeKnown knownEdition
+an-edition edition s p sats gs zs e = rw e

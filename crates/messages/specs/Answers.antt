@@ -1,7 +1,7 @@
 -- What each answer of the code tells. Assumes nothing.
 use Prim.Native.Nat.{ℕ}
 use lib.IntN.{ℤ}
-use Rattle.bits.specs.Told.{Told, Accepted, short, range, signal, satellite, tooMany, duplicate, room, size}
+use Rattle.bits.specs.Told.{Told, Accepted, short, range, signal, satellite, tooMany, duplicate, room, size, kind}
 use Rattle.messages.specs.Signals.{Signal, sig, Found, At, None}
 use Rattle.messages.specs.SignalOrder.{less, equal, greater}
 use Rattle.messages.specs.Records.{Counted, counted}
@@ -9,6 +9,10 @@ use Rattle.messages.specs.declared.signals.SignalFound.{SignalFound}
 use Rattle.messages.specs.declared.signals.SignalFound.the-variants as S
 use Rattle.messages.specs.declared.signals.NumberFound.{NumberFound}
 use Rattle.messages.specs.declared.signals.NumberFound.the-variants as N
+use Rattle.messages.specs.declared.signals1059.Signal1059.{Signal1059}
+use Rattle.messages.specs.declared.signals1059.Signal1059.the-variants as E
+use Rattle.messages.specs.declared.signals1059.Number1059.{Number1059}
+use Rattle.messages.specs.declared.signals1059.Number1059.the-variants as M
 use Rattle.messages.specs.declared.signals.Order.{Order}
 use Rattle.messages.specs.declared.signals.Order.the-variants as O
 use Rattle.messages.specs.declared.answer.BlockRead.{BlockRead}
@@ -25,6 +29,18 @@ foundSignal S.None = None
 abbrev pub foundNumber : NumberFound → Found ℕ
 foundNumber (N.At number) = At number
 foundNumber N.None = None
+
+-- a signal of an edition, or none, or Kind
+abbrev pub toldSignal : Signal1059 → Told (Found Signal)
+toldSignal (E.At band letter) = Accepted (At (sig band letter))
+toldSignal E.None = Accepted None
+toldSignal E.Kind = kind
+
+-- a number of an edition, or none, or Kind
+abbrev pub toldNumber : Number1059 → Told (Found ℕ)
+toldNumber (M.At number) = Accepted (At number)
+toldNumber M.None = Accepted None
+toldNumber M.Kind = kind
 
 -- -1, 0 or 1
 abbrev pub toldOrder : Order → ℤ
@@ -49,3 +65,4 @@ toldBlock (W.Range i) = range i
 toldBlock (W.TooMany a) = tooMany a
 toldBlock (W.Duplicate i) = duplicate i
 toldBlock (W.Room n) = room n
+toldBlock W.Kind = kind

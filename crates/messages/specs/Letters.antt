@@ -19,6 +19,9 @@ I = 73
 abbrev pub L : ℕ
 L = 76
 
+abbrev pub M : ℕ
+M = 77
+
 abbrev pub P : ℕ
 P = 80
 
@@ -33,6 +36,9 @@ W = 87
 
 abbrev pub X : ℕ
 X = 88
+
+abbrev pub Y : ℕ
+Y = 89
 
 abbrev pub Z : ℕ
 Z = 90

@@ -10,7 +10,7 @@ use Rattle.messages.specs.Every.{Every}
 use Rattle.messages.specs.Reader.{many}
 use Rattle.messages.specs.Records.{Rec1059, signalOf1059}
 use Rattle.messages.specs.Read1059.{biasAt}
-use Rattle.messages.specs.Signals1059.{isSignal1059}
+use Rattle.messages.specs.Signals1059.{isEdition, isSignal1059}
 
 -- a satellite as it was read: its number and its records
 pub record Sat : Type 0 where
@@ -43,8 +43,9 @@ unfoldable pub AscendingFrom : ℕ → List Sat → Type 0
 AscendingFrom a [] = Unit
 AscendingFrom a (x ∷ xs) = (a ≤ x .number) × AscendingFrom (suc (x .number)) xs
 
--- satellites strictly ascending, each with a bias, and no signal that the edition reserves
+-- an edition that there is; satellites strictly ascending, each with a bias, and no signal that the edition reserves
 pub record Regular (edition : ℕ) (xs : List Sat) : Type 0 where
+  pub known : isEdition edition ≡ true
   pub ascending : AscendingFrom 0 xs
   pub biased : Every (λ x. 1 ≤ length (x .records)) xs
   pub assigned : Every (λ r. isSignal1059 edition (signalOf1059 r) ≡ true) (recordsOf xs)

@@ -9,7 +9,7 @@ use Rattle.bits.specs.Told.{Told, andThen, size, satellite, signal, range, tooM
 use Rattle.bits.specs.Signed.{fitsTwos, twosBits}
 use Rattle.bits.specs.Outcome.{Outcome}
 use Rattle.bits.specs.Fields.{Field, bits}
-use Rattle.messages.specs.Signals1059.{isSignal1059}
+use Rattle.messages.specs.Signals1059.{knownEdition, isSignal1059}
 use Rattle.messages.specs.Writer.{fine, keep, firstFault, writeRun}
 use Rattle.messages.specs.Records.{Rec1059, rec1059, records1059}
 
@@ -77,7 +77,7 @@ refused1059 edition n sats gs zs =
     (cond (ltb 1953 (length sats)) size
     (refusedRecords1059 edition (records1059 sats gs zs)))))
 
--- the block of lists of the parts of records, written from bit p on
+-- the block of lists of the parts of records, written from bit p on; Kind of an edition that there is not comes before all else
 unfoldable pub write1059 : ℕ → List ℕ → ℕ → List ℕ → List ℕ → List ℤ → Outcome ℕ (List ℕ)
 write1059 edition s p sats gs zs =
-    writeRun (refused1059 edition (length s) sats gs zs) s p (fields1059 (records1059 sats gs zs))
+    writeRun (andThen (knownEdition edition) (λ u. refused1059 edition (length s) sats gs zs)) s p (fields1059 (records1059 sats gs zs))

@@ -11,8 +11,8 @@ use Rattle.bits.specs.Signed.{fitsTwos}
 use Rattle.bits.specs.Outcome.{Outcome}
 use Rattle.messages.specs.Columns.{inMask}
 use Rattle.messages.specs.Writer.{fine, writeRun}
-use Rattle.messages.specs.Records.{Rec1059, rec1059}
-use Rattle.messages.specs.Write1059.{crowded, present, fields1059}
+use Rattle.messages.specs.Records.{Rec1059, rec1059, records1059}
+use Rattle.messages.specs.Write1059.{crowded, present, fields1059, refused1059}
 use Rattle.messages.specs.declared.write1059.Fault.{Fault}
 use Rattle.messages.specs.declared.write1059.Fault.the-variants as F
 
@@ -49,6 +49,11 @@ refusedSound rs = andThen (crowded 0 64 rs) (λ u. cond (eqb (present 0 64 rs) 6
 -- and the block of them written from bit p on
 unfoldable pub writeSound : List ℕ → ℕ → List Rec1059 → Outcome ℕ (List ℕ)
 writeSound s p rs = writeRun (refusedSound rs) s p (fields1059 rs)
+
+-- the call of an edition that there is
+unfoldable pub writeKnown : ℕ → List ℕ → ℕ → List ℕ → List ℕ → List ℤ → Outcome ℕ (List ℕ)
+writeKnown edition s p sats gs zs =
+    writeRun (refused1059 edition (length s) sats gs zs) s p (fields1059 (records1059 sats gs zs))
 
 -- ---- the records of each satellite, linked
 

@@ -31,6 +31,8 @@ pub enum BlockWritten {
     Duplicate(usize),
     // Carries the bits of the block.
     Room(usize),
+    // There is no such edition of the 1059 signals.
+    Kind,
 }
 
 // The Short of a field, passed on unchanged. Data and width of a block's field are within their limits, so it is refused

@@ -14,28 +14,16 @@ ghost use Rattle.messages.specs.Put.{Fits, Did};
 ghost use Rattle.messages.specs.Records.{records1059};
 ghost use Rattle.messages.specs.Writer.{fine, firstFault};
 ghost use Rattle.messages.specs.Write1059.{ofSatellite, satelliteFields, satellitesFrom, write1059};
-ghost use Rattle.messages.specs.WriteSteps1059.{toldFault, faultBy, Sound, writeSound, nextOf, countOf, Links, Linked, crowdedIn, presentIn};
+ghost use Rattle.messages.specs.WriteSteps1059.{toldFault, faultBy, Sound, writeSound, writeKnown, nextOf, countOf, Links, Linked, crowdedIn, presentIn};
 use crate::answer::BlockWritten;
 use crate::put;
 use crate::signals1059::in_mask;
+use crate::signals1059::is_edition;
 use crate::signals1059::mask_1059;
 
 // Writes the block of the records from bit `start` on, the satellites ascending and the records of each in list order.
-// Record i is satellite i, signal i and bias i of three lists of one length.
+// Record i is satellite i, signal i and bias i of three lists of one length. The signals are those of the edition, 1 or 2.
 pub fn write(
-    bytes: &mut [u8],
-    start: usize,
-    satellites: &[u8],
-    signals: &[u8],
-    biases: &[i16],
-) -> BlockWritten
-    ensures { λ r. ⌜ outcome (toldBlock r) (now (bytes .exit)) ≡ write1059 1 (now (bytes .entry)) start (now (satellites .entry)) (now (signals .entry)) (now (biases .entry)) ⌝ }
-{
-    write_edition(1, bytes, start, satellites, signals, biases)
-}
-
-// The same for an edition of the signals.
-fn write_edition(
     edition: u32,
     bytes: &mut [u8],
     start: usize,
@@ -44,6 +32,23 @@ fn write_edition(
     biases: &[i16],
 ) -> BlockWritten
     ensures { λ r. ⌜ outcome (toldBlock r) (now (bytes .exit)) ≡ write1059 edition (now (bytes .entry)) start (now (satellites .entry)) (now (signals .entry)) (now (biases .entry)) ⌝ }
+{
+    if !is_edition(edition) {
+        return BlockWritten::Kind;
+    }
+    write_known(edition, bytes, start, satellites, signals, biases)
+}
+
+// The same of an edition that there is.
+fn write_known(
+    edition: u32,
+    bytes: &mut [u8],
+    start: usize,
+    satellites: &[u8],
+    signals: &[u8],
+    biases: &[i16],
+) -> BlockWritten
+    ensures { λ r. ⌜ outcome (toldBlock r) (now (bytes .exit)) ≡ writeKnown edition (now (bytes .entry)) start (now (satellites .entry)) (now (signals .entry)) (now (biases .entry)) ⌝ }
 {
     let n = satellites.len();
     if 1023 < bytes.len() {

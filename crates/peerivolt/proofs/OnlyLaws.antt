@@ -15,6 +15,7 @@ use Rattle.messages.specs.Write1059.{write1059}
 use Rattle.messages.specs.Write1230.{write1230}
 use Rattle.messages.specs.Metres.{metres1059, metres1230}
 use Rattle.messages.specs.Signals.{sig, tableOf, signalOf, numberOf}
+use Rattle.messages.specs.Signals1059.{namedSignal1059, namedNumber1059}
 use Rattle.messages.specs.SignalOrder.{order}
 use Rattle.damage.specs.Compare.{compare}
 use Rattle.settings.specs.Read.{readSettings}
@@ -87,8 +88,8 @@ only-pv-feed held count piece out e = only-returned (feeds held out (feedOf rtcm
 pub only-pv-1059-read : (s : List ℕ) (p : ℕ) (sats gs : List ℕ) (zs : List ℤ) (e : List ℕ) → OneAnswer (reads1059 sats gs zs (read1059 s p sats gs zs) e)
 only-pv-1059-read s p sats gs zs e = only-returned (reads1059 sats gs zs (read1059 s p sats gs zs) e)
 
-pub only-pv-1059-write : (s : List ℕ) (p : ℕ) (sats gs : List ℕ) (zs : List ℤ) (e : List ℕ) → OneAnswer (answered endValues e s (write1059 1 s p sats gs zs))
-only-pv-1059-write s p sats gs zs e = only-returned (answered endValues e s (write1059 1 s p sats gs zs))
+pub only-pv-1059-write : (edition : ℕ) (s : List ℕ) (p : ℕ) (sats gs : List ℕ) (zs : List ℤ) (e : List ℕ) → OneAnswer (answered endValues e s (write1059 edition s p sats gs zs))
+only-pv-1059-write edition s p sats gs zs e = only-returned (answered endValues e s (write1059 edition s p sats gs zs))
 
 pub only-pv-1230-read : (s : List ℕ) (p : ℕ) (gs : List ℕ) (zs : List ℤ) (e : List ℕ) → OneAnswer (reads1230 gs zs (read1230 s p gs zs) e)
 only-pv-1230-read s p gs zs e = only-returned (reads1230 gs zs (read1230 s p gs zs) e)
@@ -107,6 +108,12 @@ only-pv-signal-of system number e = only-returned (reads signalValues (Accepted 
 
 pub only-pv-number-of : (system band letter : ℕ) (e : List ℕ) → OneAnswer (reads numberValues (Accepted (numberOf (tableOf system) (sig band letter))) e)
 only-pv-number-of system band letter e = only-returned (reads numberValues (Accepted (numberOf (tableOf system) (sig band letter))) e)
+
+pub only-pv-1059-signal-of : (edition number : ℕ) (e : List ℕ) → OneAnswer (reads signalValues (namedSignal1059 edition number) e)
+only-pv-1059-signal-of edition number e = only-returned (reads signalValues (namedSignal1059 edition number) e)
+
+pub only-pv-1059-number-of : (edition band letter : ℕ) (e : List ℕ) → OneAnswer (reads numberValues (namedNumber1059 edition (sig band letter)) e)
+only-pv-1059-number-of edition band letter e = only-returned (reads numberValues (namedNumber1059 edition (sig band letter)) e)
 
 pub only-pv-signal-order : (system band1 letter1 band2 letter2 : ℕ) (e : List ℕ)
     → OneAnswer (reads orderValues (Accepted (order (tableOf system) (sig band1 letter1) (sig band2 letter2))) e)

@@ -42,9 +42,10 @@ pub extern "C" fn pv_1059_read(
     )
 }
 
-// Writes the block of message 1059 from bit `start` on. Extra: the end bit.
+// Writes the block of message 1059 from bit `start` on, by an edition of its signals. Extra: the end bit.
 #[no_mangle]
 pub extern "C" fn pv_1059_write(
+    edition: u32,
     bytes: &mut [u8],
     start: usize,
     satellites: &[u8],
@@ -52,13 +53,13 @@ pub extern "C" fn pv_1059_write(
     biases: &[i16],
     extra: &mut [u64],
 ) -> u32
-    ensures { λ r. ⌜ returned r (now (extra .exit)) (now (bytes .exit)) ≡ answered endValues (now (extra .entry)) (now (bytes .entry)) (write1059 1 (now (bytes .entry)) start (now (satellites .entry)) (now (signals .entry)) (now (biases .entry))) ⌝ }
+    ensures { λ r. ⌜ returned r (now (extra .exit)) (now (bytes .exit)) ≡ answered endValues (now (extra .entry)) (now (bytes .entry)) (write1059 edition (now (bytes .entry)) start (now (satellites .entry)) (now (signals .entry)) (now (biases .entry))) ⌝ }
 {
     if extra.len() != 8 {
         return 9;
     }
     extra::fill(
-        block_written(write1059::write(bytes, start, satellites, signals, biases)),
+        block_written(write1059::write(edition, bytes, start, satellites, signals, biases)),
         extra,
     )
 }
@@ -142,5 +143,6 @@ fn block_written(answer: BlockWritten) -> Reply
         BlockWritten::TooMany(which) => extra::with_one(6, which as u64),
         BlockWritten::Duplicate(index) => extra::with_one(7, index as u64),
         BlockWritten::Room(bits) => extra::with_one(8, bits as u64),
+        BlockWritten::Kind => extra::bare(13),
     }
 }

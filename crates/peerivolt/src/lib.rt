@@ -8,4 +8,5 @@ pub mod fields;
 pub mod one_frame;
 pub mod scanner;
 pub mod signals;
+pub mod signals1059;
 pub mod version;

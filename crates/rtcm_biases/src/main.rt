@@ -3,6 +3,7 @@ mod options;
 mod table;
 
 use frames::frame;
+use options::Shown;
 use options::Start;
 use reading::Step;
 use reading::arguments;
@@ -20,7 +21,7 @@ fn main() {
         return;
     }
     if asked.wrong {
-        options::wrong_start();
+        options::wrong_number();
         return;
     }
     if asked.file == 0 {
@@ -34,47 +35,50 @@ fn main() {
 fn show_all() {
     let mut out = io::large_buffer();
     let mut at: usize = 0;
-    let mut start = Start::Usual;
+    let mut shown = Shown {
+        start: Start::Usual,
+        edition: 1,
+    };
     let count = os::arg_count();
     let mut i: usize = 1;
     while i < count {
-        start = show_argument(i, start, &mut out, &mut at);
+        shown = show_argument(i, shown, &mut out, &mut at);
         i += 1;
     }
 }
 
-// Shows what argument i names, and hands back where blocks start from there on.
-fn show_argument(i: usize, start: Start, out: &mut [u8; 65536], at: &mut usize) -> Start {
+// Shows what argument i names, and hands back how recordings are shown from there on.
+fn show_argument(i: usize, shown: Shown, out: &mut [u8; 65536], at: &mut usize) -> Shown {
     if options::is_number(i) {
-        return options::start_at(i);
+        return options::changed(i, shown);
     }
     match options::kind_at(i) {
-        Kind::File => show_file(i, start, out, at),
-        Kind::Input => show_open(0, b"standard input", start, out, at),
+        Kind::File => show_file(i, shown, out, at),
+        Kind::Input => show_open(0, b"standard input", shown, out, at),
         _ => {}
     }
-    start
+    shown
 }
 
-fn show_file(i: usize, start: Start, out: &mut [u8; 65536], at: &mut usize) {
+fn show_file(i: usize, shown: Shown, out: &mut [u8; 65536], at: &mut usize) {
     let mut path = io::buffer();
     let n = os::arg(i, &mut path);
     let fd = arguments::open(&path[..n]);
     if fd < 0 {
         return;
     }
-    show_open(fd, &path[..n], start, out, at);
+    show_open(fd, &path[..n], shown, out, at);
     libc::close(fd);
 }
 
 // Shows an open recording.
-fn show_open(fd: i32, name: &[u8], start: Start, out: &mut [u8; 65536], at: &mut usize) {
-    show(fd, name, start, out, at);
+fn show_open(fd: i32, name: &[u8], shown: Shown, out: &mut [u8; 65536], at: &mut usize) {
+    show(fd, name, shown, out, at);
     printing::flush(out, at);
 }
 
 // Goes through the frames.
-fn show(fd: i32, name: &[u8], start: Start, out: &mut [u8; 65536], at: &mut usize) {
+fn show(fd: i32, name: &[u8], shown: Shown, out: &mut [u8; 65536], at: &mut usize) {
     let mut held = [0u8; 1029];
     let mut piece = io::large_buffer();
     let mut bytes = [0u8; 1029];
@@ -92,7 +96,7 @@ fn show(fd: i32, name: &[u8], start: Start, out: &mut [u8; 65536], at: &mut usiz
                 length,
                 account: a,
             } => {
-                tally = show_frame(&bytes, length, place, start, tally, out, at);
+                tally = show_frame(&bytes, length, place, shown, tally, out, at);
                 account = a;
             }
             Step::Piece(a) => {
@@ -118,11 +122,12 @@ fn show_frame(
     bytes: &[u8; 1029],
     length: usize,
     place: u64,
-    start: Start,
+    shown: Shown,
     tally: Tally,
     out: &mut [u8; 65536],
     at: &mut usize,
 ) -> Tally {
+    let start = shown.start;
     let frame = reading::frame_of(bytes, length);
     let number = reading::number_of(frame);
     let usual = usual_start(number);
@@ -134,6 +139,7 @@ fn show_frame(
         frame::data_of(frame),
         place,
         options::bit(start, usual),
+        shown.edition,
         tally,
         out,
         at,

@@ -1,4 +1,5 @@
 // What the arguments ask for, and what is said to the user.
+use check::same;
 use libc::STDERR_FILENO;
 use libc::STDOUT_FILENO;
 use reading::arguments;
@@ -12,8 +13,14 @@ pub enum Start {
     Wrong,
 }
 
+// How the recordings behind some arguments are shown: where their blocks start, and by which edition of the 1059 signals.
+pub struct Shown {
+    pub start: Start,
+    pub edition: u32,
+}
+
 // What all the arguments ask for: `unknown` is the place of an option that is not known, and `file` that of a recording,
-// or 0; `wrong` says that the last --start has no number.
+// or 0; `wrong` says that the last --start or --edition has no number that it takes.
 pub struct Asked {
     pub help: bool,
     pub unknown: usize,
@@ -30,7 +37,7 @@ pub fn all() -> Asked {
     let mut i: usize = 1;
     while i < count {
         if is_number(i) {
-            wrong = is_wrong(start_at(i));
+            wrong = is_wrong(i);
         } else {
             match kind_at(i) {
                 Kind::Help => {
@@ -57,14 +64,18 @@ pub fn all() -> Asked {
     }
 }
 
-fn is_wrong(start: Start) -> bool {
-    match start {
+// Whether argument i is no number that the option before it takes.
+fn is_wrong(i: usize) -> bool {
+    if of_edition(i) {
+        return edition_at(i) == 0;
+    }
+    match start_at(i) {
         Start::Wrong => true,
         _ => false,
     }
 }
 
-// Whether argument i is the number of a --start, which is the word before it.
+// Whether argument i is the number of an option, which is the word before it.
 pub fn is_number(i: usize) -> bool {
     if i < 2 {
         return false;
@@ -75,15 +86,60 @@ pub fn is_number(i: usize) -> bool {
     }
 }
 
-// What argument i is. The program's own option is --start.
+// Whether the word before argument i is --edition.
+fn of_edition(i: usize) -> bool {
+    if i < 2 {
+        return false;
+    }
+    is_edition(i - 1)
+}
+
+fn is_edition(i: usize) -> bool {
+    let mut word = io::buffer();
+    let n = os::arg(i, &mut word);
+    same(&word[..n], b"--edition")
+}
+
+// What argument i is. The program's own options are --start and --edition.
 pub fn kind_at(i: usize) -> Kind {
+    if is_edition(i) {
+        return Kind::Own;
+    }
     let mut word = io::buffer();
     let n = os::arg(i, &mut word);
     arguments::kind_of(&word[..n], b"--start")
 }
 
+// The start or the edition that argument i names, for the recordings behind it.
+pub fn changed(i: usize, shown: Shown) -> Shown {
+    let start = shown.start;
+    if of_edition(i) {
+        return Shown {
+            start,
+            edition: edition_at(i),
+        };
+    }
+    Shown {
+        start: start_at(i),
+        edition: shown.edition,
+    }
+}
+
+// The edition that argument i names, 1 or 2; else 0.
+fn edition_at(i: usize) -> u32 {
+    let mut word = io::buffer();
+    let n = os::arg(i, &mut word);
+    if same(&word[..n], b"1") {
+        return 1;
+    }
+    if same(&word[..n], b"2") {
+        return 2;
+    }
+    0
+}
+
 // The data bit that argument i names.
-pub fn start_at(i: usize) -> Start {
+fn start_at(i: usize) -> Start {
     let mut word = io::buffer();
     let n = os::arg(i, &mut word);
     number(&word[..n])
@@ -124,21 +180,22 @@ pub fn bit(start: Start, usual: usize) -> usize {
 pub fn help() {
     io::write_all(
         STDOUT_FILENO,
-        b"rtcm_biases [--start N] FILE..
+        b"rtcm_biases [--start N] [--edition N] FILE..
 
 Shows the biases in the RTCM 3 messages 1059 (GPS) and 1230 (GLONASS) of each file (- is standard
 input): a table for each message, with the raw numbers and the metres that they stand for.
 A signal number that is reserved stands in brackets.
 
-  --start N  in the files behind it blocks start at data bit N, and not at 61 (1059) or 28 (1230)
-  --help     this text
+  --start N    in the files behind it blocks start at data bit N, and not at 61 (1059) or 28 (1230)
+  --edition N  in the files behind it the signals of 1059 have the names of edition N, 1 (as a rule) or 2
+  --help       this text
 ",
     );
 }
 
-pub fn wrong_start() {
+pub fn wrong_number() {
     io::write_all(
         STDERR_FILENO,
-        b"rtcm_biases: --start takes the number of a data bit, as --start 61; rtcm_biases --help says more\n",
+        b"rtcm_biases: --start takes the number of a data bit, as --start 61, and --edition takes 1 or 2; rtcm_biases --help says more\n",
     );
 }

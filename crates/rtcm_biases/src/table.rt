@@ -5,6 +5,7 @@ use messages::read1230;
 use messages::signals;
 use messages::signals::SignalFound;
 use messages::signals1059;
+use messages::signals1059::Signal1059;
 use printing::Amount;
 use printing::phrase;
 use printing::text;
@@ -27,12 +28,13 @@ pub fn opening(name: &[u8], account: Account, out: &mut [u8; 65536], at: &mut us
     text(out, at, b"\n");
 }
 
-// The block of message `number`, 1059 or 1230, from data bit `start` on.
+// The block of message `number`, 1059 or 1230, from data bit `start` on, with the names of an edition of the 1059 signals.
 pub fn block(
     number: u64,
     data: &[u8],
     place: u64,
     start: usize,
+    edition: u32,
     tally: Tally,
     out: &mut [u8; 65536],
     at: &mut usize,
@@ -52,7 +54,7 @@ pub fn block(
     let BlockRead::Records { count, end } = answer else {
         return one_refused(tally);
     };
-    rows(number, &satellites, &signals, &biases, count, out, at);
+    rows(number, edition, &satellites, &signals, &biases, count, out, at);
     left_over(data.len(), end, out, at);
     one_read(tally)
 }
@@ -91,6 +93,7 @@ fn told(before: &[u8], n: usize, behind: &[u8], out: &mut [u8; 65536], at: &mut 
 // The rows of the first `count` records, under the heads of their columns.
 fn rows(
     number: u64,
+    edition: u32,
     satellites: &[u8; 422],
     signals: &[u8; 422],
     biases: &[i16; 422],
@@ -105,7 +108,7 @@ fn rows(
             return;
         }
         satellite(number, satellites[i], out, at);
-        name(signal_of(number, signals[i]), signals[i], out, at);
+        name(signal_of(number, edition, signals[i]), signals[i], out, at);
         values(number, amount(biases[i]), out, at);
         i += 1;
     }
@@ -120,11 +123,18 @@ fn satellite(number: u64, satellite: u8, out: &mut [u8; 65536], at: &mut usize) 
 }
 
 // The signal of a record: message 1059 has a table of its own, 1230 that of GLONASS.
-fn signal_of(number: u64, signal: u8) -> SignalFound {
+fn signal_of(number: u64, edition: u32, signal: u8) -> SignalFound {
     if number == 1059 {
-        return signals1059::signal_of_1059(1, signal as u32);
+        return of_edition(signals1059::signal_of_1059(edition, signal as u32));
     }
     signals::signal_of(1, signal as u32)
+}
+
+fn of_edition(answer: Signal1059) -> SignalFound {
+    match answer {
+        Signal1059::At(band, letter) => SignalFound::At(band, letter),
+        _ => SignalFound::None,
+    }
 }
 
 fn amount(bias: i16) -> Amount {

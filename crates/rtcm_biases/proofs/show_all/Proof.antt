@@ -5,10 +5,10 @@ use Rattle.rtcm_biases.proofs.show_all.Statement.{statement}
 use Rattle.rtcm_biases.proofs.show_all.Tie as tie
 
 abbrev Inv-loop : tie.InvT-loop
-Inv-loop out₀ at₀ start₀ count i₀ out at start i = Unit {0}
+Inv-loop out₀ at₀ shown₀ count i₀ out at shown i = Unit {0}
 
 abbrev μ-loop : tie.MeasureT-loop
-μ-loop out₀ at₀ start₀ count i₀ out at start i = count - i
+μ-loop out₀ at₀ shown₀ count i₀ out at shown i = count - i
 
 large-buffer-requires : tie.Need-large-buffer-requires Inv-loop μ-loop
 large-buffer-requires c κs = tt

@@ -1,33 +1,46 @@
--- `messages::signals1059::signal_of_1059` meets its contract: the columns of the edition are its table, line by line. Assumes nothing.
+-- `messages::signals1059::signal_of_1059` meets its contract: the line of the edition's table that has what is wanted tells the answer. Assumes nothing.
 use mathlib.Core.Path.{_∙_, sym, ap}
 use borrow.Author.Needs.{needs}
-use Rattle.messages.specs.Signals.{signalOf}
-use Rattle.messages.specs.Signals1059.{edition1, signals1059}
-use Rattle.messages.specs.Columns.{entries, signalAt}
-use Rattle.messages.proofs.ColumnLaws.{no-edition, signal-by-line}
+use borrow.Author.Tests.{not-true, not-false}
+use Rattle.bits.specs.Told.{Accepted}
+use Rattle.messages.specs.Columns.{foundLine, signalAt}
+use Rattle.messages.specs.declared.signals.Line.{Line}
+use Rattle.messages.proofs.ColumnLaws.{not-named, named}
 use Rattle.messages.proofs.signals1059.signal_of_1059.Statement.{statement}
 use Rattle.messages.proofs.signals1059.signal_of_1059.Tie as tie
 
 returns : tie.Need-returns
-unfolding signals1059 edition1 entries
 returns c =
-    c .signal-at .ensures
-    ∙ ap signalAt (c .before .line-in .ensures)
-    ∙ sym (signal-by-line _ _)
-    ∙ rw (c .before .before .before .before .before .match .keys1)
+    let a = c .before .before .args in
+    not-named (a .edition) (a .number) (sym (c .before .is-edition .ensures) ∙ not-true _ (c .if1 .taken))
+
+enum-told : tie.Need-enum-told
+enum-told c = search needs
 
 returns-2 : tie.Need-returns-2
-unfolding signalOf
-returns-2 c = rw (no-edition (c .before .args .edition) (c .match .rest .1))
+returns-2 c =
+    let l = c .before .before .before in
+    let a = l .before .before .before .args in
+    sym (ap (λ (x : Line). Accepted (signalAt (foundLine x))) (c .before .band .given .1))
+    ∙ ap (λ x. Accepted (signalAt x)) (l .line-of-1059 .ensures)
+    ∙ named (a .edition) (a .number) (sym (l .before .before .is-edition .ensures) ∙ not-false _ (l .before .if1 .left))
+
+returns-3 : tie.Need-returns-3
+returns-3 c =
+    let l = c .before .before in
+    let a = l .before .before .before .args in
+    sym (ap (λ (x : Line). Accepted (signalAt (foundLine x))) (c .enum-told .given .1))
+    ∙ ap (λ x. Accepted (signalAt x)) (l .line-of-1059 .ensures)
+    ∙ named (a .edition) (a .number) (sym (l .before .before .is-edition .ensures) ∙ not-false _ (l .before .if1 .left))
 
 pub signal-of-1059-spec : {M : Type 1} → statement M
 signal-of-1059-spec =
     tie.close
     (tie.spec
-    (λ c. search needs)
-    (λ c. search needs)
-    (λ c. search needs)
-    (λ c κs. search needs)
     (λ c κs. search needs)
     returns
-    returns-2)
+    (λ c κs. search needs)
+    (λ c. search needs)
+    enum-told
+    returns-2
+    returns-3)

@@ -31,10 +31,15 @@ returns-7 c = c .with-one6 .ensures ∙ tells endValues toldBlock (c .before .be
 returns-8 : tie.Need-returns-8
 returns-8 c = c .with-one7 .ensures ∙ tells endValues toldBlock (c .before .before .answer7 .given .1)
 
+returns-9 : tie.Need-returns-9
+returns-9 c = c .bare2 .ensures ∙ tells endValues toldBlock (c .before .enum-told2 .given .1)
+
 pub block-written-spec : {M : Type 1} → statement M
 block-written-spec =
     tie.close
     (tie.spec
+    (λ c. search needs)
+    (λ c κs. search needs)
     (λ c. search needs)
     (λ c κs. search needs)
     (λ c. search needs)
@@ -58,4 +63,5 @@ block-written-spec =
     returns-5
     returns-6
     returns-7
-    returns-8)
+    returns-8
+    returns-9)

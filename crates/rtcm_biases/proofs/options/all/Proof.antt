@@ -19,9 +19,6 @@ loop-holds c = tt
 is-number-requires : tie.Need-is-number-requires Inv-loop μ-loop
 is-number-requires c κs = search needs
 
-start-at-requires : tie.Need-start-at-requires Inv-loop μ-loop
-start-at-requires c κs = search needs
-
 is-wrong-requires : tie.Need-is-wrong-requires Inv-loop μ-loop
 is-wrong-requires c κs = search needs
 
@@ -58,7 +55,6 @@ all-spec =
     arg-count-requires
     loop-holds
     is-number-requires
-    start-at-requires
     is-wrong-requires
     kind-at-requires
     enum-told

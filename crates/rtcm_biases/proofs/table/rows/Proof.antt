@@ -5,10 +5,10 @@ use Rattle.rtcm_biases.proofs.table.rows.Statement.{statement}
 use Rattle.rtcm_biases.proofs.table.rows.Tie as tie
 
 abbrev Inv-loop : tie.InvT-loop
-Inv-loop number satellites signals biases count out₀ at₀ i₀ out at i = Unit {0}
+Inv-loop number edition satellites signals biases count out₀ at₀ i₀ out at i = Unit {0}
 
 abbrev μ-loop : tie.MeasureT-loop
-μ-loop number satellites signals biases count out₀ at₀ i₀ out at i = 422 - i
+μ-loop number edition satellites signals biases count out₀ at₀ i₀ out at i = 422 - i
 
 slice-aggregate-text : tie.Need-slice-aggregate-text Inv-loop μ-loop
 slice-aggregate-text c = omega arith

@@ -1,11 +1,11 @@
--- `messages::write1059::write_edition` meets its contract. Each answer is the one that the sizes and the first fault ask for. Assumes nothing.
+-- `messages::write1059::write_known` meets its contract. Each answer is the one that the sizes and the first fault ask for. Assumes nothing.
 use mathlib.Core.Path.{ap, _∙_}
 use borrow.Author.Needs.{needs}
 use Rattle.messages.specs.WriteSteps1059.{toldFault}
 use Rattle.messages.proofs.FaultLaws.{found, sound}
 use Rattle.messages.proofs.Write1059Laws.{long-data, uneven-signals, uneven-biases, many-records, some-fault, no-fault}
-use Rattle.messages.proofs.write1059.write_edition.Statement.{statement}
-use Rattle.messages.proofs.write1059.write_edition.Tie as tie
+use Rattle.messages.proofs.write1059.write_known.Statement.{statement}
+use Rattle.messages.proofs.write1059.write_known.Tie as tie
 
 returns : tie.Need-returns
 returns c =
@@ -63,8 +63,8 @@ returns-8 c =
     ∙ no-fault (a .edition) (a .bytes .now) (a .start) (a .satellites .now) (a .signals .now) (a .biases .now) (c .before .before .before .before .before .before .before .before .before .before .before .if1 .left) (c .before .before .before .before .before .before .before .before .before .before .if2 .left) (c .before .before .before .before .before .before .before .before .before .if3 .left) (c .before .before .before .before .before .before .before .before .if4 .left)
     (found (a .edition) _ _ _ (c .before .before .before .before .before .before .before .mask-1059 .ensures) (c .before .before .before .before .before .before .first-fault .ensures) ∙ ap toldFault (c .before .before .before .before .enum-told .given .1))
 
-pub write-edition-spec : {M : Type 1} → statement M
-write-edition-spec =
+pub write-known-spec : {M : Type 1} → statement M
+write-known-spec =
     tie.close
     (tie.spec
     returns
