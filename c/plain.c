@@ -453,15 +453,22 @@ uint32_t PLAIN(1059_write)(uint32_t edition, uint8_t *data, size_t data_len, siz
     if (data_len > PV_DATA_MAX || count != signals_len || count != biases_len || count > PV_1059_WRITE_MAX)
         return answer(extra, PV_SIZE, 0, 0);
     struct tally tally = { { 0 }, 0 };
+    uint32_t seen[64] = { 0 };
+    size_t repeat = count;
     for (size_t i = 0; i < count; i++) {
         uint32_t fault = fault_1059(edition, satellites[i], signals[i], biases[i]);
         if (fault != PV_ACCEPTED)
             return answer(extra, fault, i, 0);
         tally.of[satellites[i]]++;
+        if (repeat == count && (seen[satellites[i]] >> signals[i] & 1))
+            repeat = i;
+        seen[satellites[i]] |= 1u << signals[i];
     }
     int over = too_many(&tally);
     if (over >= 0)
         return answer(extra, PV_TOO_MANY, (uint64_t)over, 0);
+    if (repeat < count)
+        return answer(extra, PV_DUPLICATE, repeat, 0);
     size_t bits = 6 + 11 * tally.different + 19 * count;
     if (!fits_in(data_len, start, bits))
         return answer(extra, PV_ROOM, bits, 0);

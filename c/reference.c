@@ -680,6 +680,10 @@ uint32_t ref_1059_write(uint32_t edition, uint8_t *data, size_t data_len, size_t
     int over = too_many(satellites, count);
     if (over >= 0)
         return refuse(extra, PV_TOO_MANY, (uint64_t)over);
+    for (size_t i = 0; i < count; i++)
+        for (size_t j = 0; j < i; j++)
+            if (satellites[j] == satellites[i] && signals[j] == signals[i])
+                return refuse(extra, PV_DUPLICATE, i);
     size_t different = different_satellites(satellites, count);
     size_t bits = 6 + 11 * different + 19 * count;
     if (!fits_in(data_len, start, bits))

@@ -153,6 +153,16 @@ static void read_block(bool is_1059)
     }
 }
 
+/* The first of n records with the satellite and the signal of an earlier one, or n. The Rust writes such a list. */
+static size_t first_repeat(size_t n)
+{
+    for (size_t i = 0; i < n; i++)
+        for (size_t j = 0; j < i; j++)
+            if (satellites[j] == satellites[i] && signals[j] == signals[i])
+                return i;
+    return n;
+}
+
 static void write_block(bool is_1059)
 {
     uint8_t data[LONGEST];
@@ -166,6 +176,15 @@ static void write_block(bool is_1059)
     const uint8_t *before = record + at - len;
     uint32_t refusal = is_1059 ? pv_1059_write(1, data, len, start, satellites, n, signals, n, biases, n, extra, PV_EXTRA_SIZE)
                                : pv_1230_write(data, len, start, signals, n, biases, n, extra, PV_EXTRA_SIZE);
+    size_t repeat = is_1059 ? first_repeat(n) : n;
+    if (repeat < n) {
+        CHECK_EQ(refusal, PV_DUPLICATE);
+        CHECK_EQ(extra[PV_AT_CARRIED], repeat);
+        CHECK(memcmp(data, before, len) == 0);
+        CHECK_EQ(number(1), PV_ACCEPTED);
+        bytes(2 + len);
+        return;
+    }
     check_left(refusal, data, len, before);
 }
 

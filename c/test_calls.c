@@ -548,7 +548,7 @@ static void read_1059_short_places(void)
     area_lend(&data, sizeof block, 0);
     lend_1059(4);
     for (size_t i = 0; i < 4; i++)
-        set_1059(i, i < 2 ? 3 : 60, 15, -1);
+        set_1059(i, i < 2 ? 3 : 60, i % 2 ? 15 : 14, -1);
     ACCEPTED(pv_1059_write(1, DATA, 0, LISTS_1059, EXTRA), 104);
     memcpy(block, data.bytes, sizeof block);
     for (size_t n = 0; n < sizeof block; n++) {
@@ -590,19 +590,43 @@ static void read_1059_odd_blocks(void)
     CHECK(satellites.bytes[2] == 201 && signals.bytes[2] == 202 && area_i16(&biases)[2] == 203);
 }
 
-/* The most records that fit into 1,023 bytes: 14 satellites, 422 records. */
+/* Writes a field into the data, and answers the bit behind it. */
+static size_t put(size_t at, size_t width, uint64_t value)
+{
+    area_lend(&extra, 64, 0);
+    CHECK_EQ(pv_field_write_unsigned(DATA, at, width, value, EXTRA), PV_ACCEPTED);
+    return at + width;
+}
+
+/* The most records that fit into 1,023 bytes: 14 satellites, 422 records, each of them signal 11, which is kept so. */
+static void most_records_read_1059(void)
+{
+    area_lend(&data, PV_DATA_MAX, 0);
+    size_t at = put(6, 6, 14);
+    for (size_t i = 0; i < PV_1059_READ_MAX; i++) {
+        if (i % 31 == 0)
+            at = put(put(at, 6, i / 31), 5, i / 31 < 13 ? 31 : 422 - 13 * 31);
+        at = put(put(at, 5, 11), 14, i);
+    }
+    lend_1059(PV_1059_READ_MAX);
+    ACCEPTED(pv_1059_read(DATA, 6, LISTS_1059, EXTRA), 422, 6 + 6 + 14 * 11 + 422 * 19);
+    CHECK(satellites.bytes[421] == 13 && signals.bytes[421] == 11 && area_i16(&biases)[421] == 421);
+    REFUSED(pv_1059_write(1, DATA, 6, LISTS_1059, EXTRA), PV_DUPLICATE, 1);
+}
+
+/* The most records that can be written: 16 signals of each satellite but the last. */
 static void most_records_1059(void)
 {
     area_lend(&data, PV_DATA_MAX, 0);
-    lend_1059(PV_1059_READ_MAX);
-    for (size_t i = 0; i < PV_1059_READ_MAX; i++)
-        set_1059(i, (unsigned)(i / 31), 11, (int)i);
-    ACCEPTED(pv_1059_write(1, DATA, 0, LISTS_1059, EXTRA), 6 + 14 * 11 + 422 * 19);
+    lend_1059(415);
+    for (size_t i = 0; i < 415; i++)
+        set_1059(i, (unsigned)(i / 16), (unsigned)(i % 16), (int)i);
+    ACCEPTED(pv_1059_write(2, DATA, 0, LISTS_1059, EXTRA), 6 + 26 * 11 + 415 * 19);
     area_lend(&data, PV_DATA_MAX, 0);
-    ACCEPTED(pv_1059_write(1, DATA, 6, LISTS_1059, EXTRA), 6 + 6 + 14 * 11 + 422 * 19);
-    ACCEPTED(pv_1059_read(DATA, 6, LISTS_1059, EXTRA), 422, 6 + 6 + 14 * 11 + 422 * 19);
-    CHECK(satellites.bytes[421] == 13 && area_i16(&biases)[421] == 421);
-    REFUSED(pv_1059_write(1, DATA, 7, LISTS_1059, EXTRA), PV_ROOM, 6 + 14 * 11 + 422 * 19);
+    ACCEPTED(pv_1059_write(2, DATA, 7, LISTS_1059, EXTRA), 7 + 6 + 26 * 11 + 415 * 19);
+    ACCEPTED(pv_1059_read(DATA, 7, LISTS_1059, EXTRA), 415, 7 + 6 + 26 * 11 + 415 * 19);
+    CHECK(satellites.bytes[414] == 25 && signals.bytes[414] == 14 && area_i16(&biases)[414] == 414);
+    REFUSED(pv_1059_write(2, DATA, 8, LISTS_1059, EXTRA), PV_ROOM, 6 + 26 * 11 + 415 * 19);
 }
 
 /* The entry of a number in a table, or null. */
@@ -709,7 +733,7 @@ static void write_1059_too_many(void)
     set_1059(62, 0, 0, 0);
     set_1059(63, 0, 0, 0);
     set_1059(0, 0, 0, 0);
-    ACCEPTED(pv_1059_write(1, DATA, 0, LISTS_1059, EXTRA), 6 + 3 * 11 + 64 * 19);
+    REFUSED(pv_1059_write(1, DATA, 0, LISTS_1059, EXTRA), PV_DUPLICATE, 2);
 
     lend_1059(64 + 31);
     for (unsigned i = 0; i < 64 + 31; i++)
@@ -718,13 +742,41 @@ static void write_1059_too_many(void)
     set_1059(94, 62, 0, 0);
     REFUSED(pv_1059_write(1, DATA, SIZE_MAX, LISTS_1059, EXTRA), PV_TOO_MANY, 64);
     set_1059(0, 1, 0, 0);
-    ACCEPTED(pv_1059_write(1, DATA, 0, LISTS_1059, EXTRA), 6 + 63 * 11 + 95 * 19);
+    REFUSED(pv_1059_write(1, DATA, 0, LISTS_1059, EXTRA), PV_DUPLICATE, 1);
 
-    /* 63 satellites with 31 biases each are not too many: they only do not fit. */
+    /* 63 satellites with 31 biases each are not too many: they only repeat. */
     lend_1059(1953);
     for (unsigned i = 0; i < 1953; i++)
         set_1059(i, 1 + i % 63, 0, 0);
-    REFUSED(pv_1059_write(1, DATA, 0, LISTS_1059, EXTRA), PV_ROOM, 6 + 63 * 11 + 1953 * 19);
+    REFUSED(pv_1059_write(1, DATA, 0, LISTS_1059, EXTRA), PV_DUPLICATE, 63);
+
+    /* And 16 signals of each only do not fit. */
+    lend_1059(63 * 16);
+    for (unsigned i = 0; i < 63 * 16; i++)
+        set_1059(i, 1 + i % 63, i / 63, 0);
+    REFUSED(pv_1059_write(2, DATA, 0, LISTS_1059, EXTRA), PV_ROOM, 6 + 63 * 11 + 63 * 16 * 19);
+}
+
+/* The first record that repeats an earlier one, whatever their biases and what stands between: after TooMany, before Room. */
+static void write_1059_duplicate(void)
+{
+    area_lend(&data, 40, 0xFF);
+    lend_1059(5);
+    set_1059(0, 0, 15, 1);
+    set_1059(1, 63, 0, 2);
+    set_1059(2, 0, 0, 3);
+    set_1059(3, 63, 15, 4);
+    set_1059(4, 63, 0, 2);
+    REFUSED(pv_1059_write(1, DATA, 0, LISTS_1059, EXTRA), PV_DUPLICATE, 4);
+    REFUSED(pv_1059_write(2, DATA, SIZE_MAX, LISTS_1059, EXTRA), PV_DUPLICATE, 4);
+    set_1059(3, 0, 15, 4);
+    REFUSED(pv_1059_write(1, DATA, 0, LISTS_1059, EXTRA), PV_DUPLICATE, 3);
+    set_1059(2, 64, 0, 3);
+    REFUSED(pv_1059_write(1, DATA, 0, LISTS_1059, EXTRA), PV_SATELLITE, 2);
+    lend_1059(33);
+    for (size_t i = 0; i < 33; i++)
+        set_1059(i, 9, 5, (int)i);
+    REFUSED(pv_1059_write(1, DATA, 0, LISTS_1059, EXTRA), PV_TOO_MANY, 9);
 }
 
 static void write_1059_room(void)
@@ -745,19 +797,19 @@ static void write_1059_room(void)
     REFUSED(pv_1059_write(1, DATA, SIZE_MAX - 35, LISTS_1059, EXTRA), PV_ROOM, 36);
 }
 
-/* Satellites go out ascending, the records of one in list order, the same pair twice included. */
+/* Satellites go out ascending, the records of one in list order. */
 static void write_1059_order(void)
 {
     area_lend(&data, 30, 0);
     lend_1059(4);
     set_1059(0, 9, 2, 1);
     set_1059(1, 4, 1, 2);
-    set_1059(2, 9, 2, 3);
+    set_1059(2, 9, 7, 3);
     set_1059(3, 9, 0, 4);
     ACCEPTED(pv_1059_write(1, DATA, 11, LISTS_1059, EXTRA), 11 + 6 + 22 + 76);
     ACCEPTED(pv_1059_read(DATA, 11, LISTS_1059, EXTRA), 4, 11 + 6 + 22 + 76);
     CHECK(satellites.bytes[0] == 4 && satellites.bytes[1] == 9 && satellites.bytes[3] == 9);
-    CHECK(signals.bytes[0] == 1 && signals.bytes[1] == 2 && signals.bytes[2] == 2 && signals.bytes[3] == 0);
+    CHECK(signals.bytes[0] == 1 && signals.bytes[1] == 2 && signals.bytes[2] == 7 && signals.bytes[3] == 0);
     const int16_t *bias = area_i16(&biases);
     CHECK(bias[0] == 2 && bias[1] == 1 && bias[2] == 3 && bias[3] == 4);
 }
@@ -767,12 +819,14 @@ static void blocks_1059(void)
     read_1059_refusals();
     read_1059_short_places();
     read_1059_odd_blocks();
+    most_records_read_1059();
     most_records_1059();
     write_1059_size();
     write_1059_kind();
     write_1059_faults();
     write_1059_editions();
     write_1059_too_many();
+    write_1059_duplicate();
     write_1059_room();
     write_1059_order();
 }

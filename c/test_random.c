@@ -531,15 +531,19 @@ static void try_1059_read(void)
             ref_1059_read(THEIRS(data), start, THEIRS(satellites), THEIRS(signals), THEIR_BIASES, THEIR_EXTRA));
 }
 
-/* Records that are mostly legal, over a few or over all satellites. */
+/* Records that are mostly legal, over a few or over all satellites, mostly without a satellite and signal twice. */
 static void random_records(void)
 {
     size_t spread = PICK(1, 2, 5, 20, 63, 64);
     int faulty = one_in(6);
     for (size_t i = 0; i < satellites.ours.size; i++)
         set_byte(&satellites, i, faulty && one_in(20) ? below(256) : below(spread));
-    for (size_t i = 0; i < signals.ours.size; i++)
-        set_byte(&signals, i, faulty && one_in(20) ? below(40) : edition_2[below(sizeof edition_2 / sizeof edition_2[0])].number);
+    uint8_t next[256] = { 0 };
+    int distinct = !one_in(4);
+    for (size_t i = 0; i < signals.ours.size; i++) {
+        uint64_t one = distinct && i < satellites.ours.size ? next[satellites.ours.bytes[i]]++ % 16u : below(16);
+        set_byte(&signals, i, faulty && one_in(20) ? below(40) : edition_2[one].number);
+    }
     for (size_t i = 0; i < biases.ours.size / 2; i++)
         set_bias(i, (int64_t)below(16384) - 8192 + (faulty && one_in(20) ? 8192 : 0));
 }

@@ -62,7 +62,7 @@ uint32_t pv_version(void);
 #define PV_SIGNAL 4u      /* A signal to be written is not in the table. Carries the index of the record. */
 #define PV_SATELLITE 5u   /* A satellite above 63. Carries the index of the record. */
 #define PV_TOO_MANY 6u    /* 64 different satellites, or over 31 biases of one. Carries the lowest satellite over 31, else 64. */
-#define PV_DUPLICATE 7u   /* A 1230 signal twice. Carries the index of the first repeat. */
+#define PV_DUPLICATE 7u   /* A 1230 signal, or a 1059 satellite and signal, twice. Carries the index of the first repeat. */
 #define PV_ROOM 8u        /* A lent output is too small. Carries what would have been needed; each function says in what. */
 #define PV_SIZE 9u        /* An input above its limit, lists of unequal length, or an area of fixed size with another size. */
 #define PV_NO_PREAMBLE 10u /* The first byte is not D3. */
@@ -278,8 +278,7 @@ uint32_t pv_1059_read(const uint8_t *data, size_t data_len, size_t start, uint8_
 
 /*
  * Writes the block of at most 1,953 records, in any order, from bit `start` of the data on. Bits outside the block stay
- * as they are. Satellites go out ascending, the records of one satellite in the order of the list, the same signal twice
- * included. The caller chooses the edition of the signals. Edition 1: 0 1C, 1 1P, 2 1W, 5 2C, 6 2D, 7 2S, 8 2L, 9 2X,
+ * as they are. Satellites go out ascending, the records of one satellite in the order of the list. The caller chooses the edition of the signals. Edition 1: 0 1C, 1 1P, 2 1W, 5 2C, 6 2D, 7 2S, 8 2L, 9 2X,
  * 10 2P, 11 2W, 14 5I, 15 5Q; the rest are reserved. Edition 2 adds 3 1Y, 4 1M, 12 2Y, 13 2M. What edition 1 accepts,
  * edition 2 writes to the same bits. Reading takes no edition.
  *
@@ -287,7 +286,8 @@ uint32_t pv_1059_read(const uint8_t *data, size_t data_len, size_t start, uint8_
  * length or above 1,953); then the first faulty record and, for it, PV_SATELLITE (above 63), PV_SIGNAL (not a signal of
  * the edition), PV_RANGE (bias outside -8192 to 8191), each
  * carrying its index; PV_TOO_MANY (over 31 biases of one satellite: carries the lowest such satellite; else 64 different
- * satellites: carries 64); PV_ROOM (the block reaches past the data; carries the bits of the whole block). An empty list
+ * satellites: carries 64); PV_DUPLICATE (a satellite and signal twice; carries the index of the first record that repeats
+ * an earlier one; reading keeps both); PV_ROOM (the block reaches past the data; carries the bits of the whole block). An empty list
  * is a block of 6 bits.
  * Answers: [PV_AT_WRITTEN_END] the bit behind the block.
  */

@@ -17,8 +17,8 @@ use Rattle.bits.proofs.SignedLaws.{twos-bits-lt}
 use Rattle.messages.specs.Every.{Every}
 use Rattle.messages.specs.Records.{Rec1059, rec1059, satelliteOf, signalOf1059, biasOf1059, records1059}
 use Rattle.messages.specs.Signals1059.{isEdition, knownEdition, isSignal1059}
-use Rattle.messages.specs.Writer.{fine, firstFault, keep}
-use Rattle.messages.specs.Write1059.{fault1059, crowded, present, fields1059, refusedRecords1059, refused1059, write1059, ofSatellite, biasFields, satelliteFields, satellitesFrom}
+use Rattle.messages.specs.Writer.{fine, firstFault, firstRepeat, keep}
+use Rattle.messages.specs.Write1059.{fault1059, samePair, crowded, present, fields1059, refusedRecords1059, refused1059, write1059, ofSatellite, biasFields, satelliteFields, satellitesFrom}
 use Rattle.messages.proofs.AcceptLaws.{then-accepted, not-refused}
 use Rattle.messages.proofs.WriterLaws.{run-put, run-accepted}
 use Rattle.messages.proofs.Signals1059Laws.{signal-fits}
@@ -64,19 +64,21 @@ pub record Fine (e : ℕ) (rs : List Rec1059) : Type 0 where
   pub clean : Every (Writable e) rs
   pub thin : crowded 0 64 rs ≡ fine
   pub fewer : present 0 64 rs ≡ 64 → ⊥
+  pub single : firstRepeat samePair 0 [] rs ≡ fine
 
 module _ (e : ℕ) (rs : List Rec1059) where
   pub records-fine : Fine e rs → refusedRecords1059 e rs ≡ fine
   unfolding refusedRecords1059
-  records-fine w = rw (clean-fine e 0 rs (w .clean), w .thin, ne-eqb (present 0 64 rs) 64 (w .fewer))
+  records-fine w = rw (clean-fine e 0 rs (w .clean), w .thin, ne-eqb (present 0 64 rs) 64 (w .fewer)) (w .single)
 
   pub fine-records : refusedRecords1059 e rs ≡ fine → Fine e rs
   unfolding refusedRecords1059
   fine-records h =
       let a = then-accepted (firstFault (fault1059 e) 0 rs) _ h in
       let b = then-accepted (crowded 0 64 rs) _ (a .2) in
-      let c = not-refused 6 (64 ∷ []) (eqb (present 0 64 rs) 64) fine (b .2) in
-      record { clean = fine-clean e 0 rs (a .1); thin = b .1; fewer = eqb-false (present 0 64 rs) 64 (c .0) }
+      let c = then-accepted (cond (eqb (present 0 64 rs) 64) (tooMany 64) fine) _ (b .2) in
+      let d = not-refused 6 (64 ∷ []) (eqb (present 0 64 rs) 64) fine (c .1) in
+      record { clean = fine-clean e 0 rs (a .1); thin = b .1; fewer = eqb-false (present 0 64 rs) 64 (d .0); single = c .2 }
 
 -- ---- the call
 

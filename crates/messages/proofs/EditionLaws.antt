@@ -84,7 +84,7 @@ module _ (e f : ℕ) (l : e ≤ f) (known : isEdition f ≡ true) where
         signals = w .signals;
         biases = w .biases;
         most = w .most;
-        records = record { clean = later-writable (records1059 sats gs zs) (w .records .clean); thin = w .records .thin; fewer = w .records .fewer };
+        records = record { clean = later-writable (records1059 sats gs zs) (w .records .clean); thin = w .records .thin; fewer = w .records .fewer; single = w .records .single };
         within = w .within;
       } in
       call-written f s p sats gs zs v ∙ sym (call-written e s p sats gs zs w)

@@ -44,6 +44,7 @@ pub mod I16Laws
 pub mod RecordLaws
 pub mod FaultLaws
 pub mod LinkLaws
+pub mod PairLaws
 pub mod Fields1059Laws
 pub mod CrowdLaws
 pub mod Write1059Laws

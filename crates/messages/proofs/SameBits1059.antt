@@ -64,7 +64,7 @@ module _ (e : ℕ) where
         signals = length-map rs satelliteOf ∙ sym (length-map rs signalOf1059);
         biases = length-map rs satelliteOf ∙ sym (length-map rs biasOf1059);
         most = omega (arith, length-map rs satelliteOf, taken xs (b .sound) .most, b .fewer);
-        records = rw (columns1059 rs) (record { clean = all-writable xs (b .sound) (regular .assigned); thin = l .thin; fewer = λ z. omega (arith, l .count, b .fewer) });
+        records = rw (columns1059 rs) (record { clean = all-writable xs (b .sound) (regular .assigned); thin = l .thin; fewer = λ z. omega (arith, l .count, b .fewer); single = regular .single });
         within = rw (columns1059 rs) (omega (arith, long));
       } in
       put-back s p q t r (fields1059 rs) stands long (omega (arith, long))

@@ -8,13 +8,13 @@ use borrow.Author.Tests.{lt-ltb, le-ltb, eq-eqb, ne-eqb}
 use lib.ListN.{length, getD}
 use lib.IntN.{ℤ}
 use lib.Dec.{ltb}
-use Rattle.bits.specs.Told.{Told, Refused, size, tooMany, Accepted, room, kind}
+use Rattle.bits.specs.Told.{Told, Refused, size, tooMany, duplicate, Accepted, room, kind}
 use Rattle.bits.specs.Outcome.{outcome}
 use Rattle.bits.specs.Fields.{bits, total, putAll}
 use Rattle.messages.specs.Records.{Rec1059, records1059}
 use Rattle.messages.specs.Signals1059.{isEdition, knownEdition}
-use Rattle.messages.specs.Writer.{fine, firstFault, writeRun}
-use Rattle.messages.specs.Write1059.{fault1059, crowded, present, fields1059, refusedRecords1059, refused1059, write1059, ofSatellite, satellitesFrom}
+use Rattle.messages.specs.Writer.{fine, firstFault, firstRepeat, writeRun}
+use Rattle.messages.specs.Write1059.{fault1059, samePair, crowded, present, fields1059, refusedRecords1059, refused1059, write1059, ofSatellite, satellitesFrom}
 use Rattle.messages.specs.WriteSteps1059.{refusedSound, writeSound, writeKnown, Sound, Linked, crowdedIn, presentIn}
 use Rattle.messages.specs.Put.{Fits, Did}
 use Rattle.messages.proofs.PutLaws.{Left, left-all, left-as, left-fits, left-put, left-none}
@@ -34,9 +34,14 @@ module _ (s : List ℕ) (p : ℕ) (rs : List Rec1059) where
     unfolding writeSound refusedSound
     all-present e = run-refused (refusedSound rs) s p (fields1059 rs) (rw (c, eq-eqb (present 0 64 rs) 64 e))
 
-    pub nothing : (present 0 64 rs ≡ 64 → ⊥) → refusedSound rs ≡ fine
-    unfolding refusedSound
-    nothing e = rw (c, ne-eqb (present 0 64 rs) 64 e)
+    module _ (n : present 0 64 rs ≡ 64 → ⊥) where
+      pub some-repeat : (i : ℕ) → firstRepeat samePair 0 [] rs ≡ duplicate i → outcome (duplicate i) s ≡ writeSound s p rs
+      unfolding writeSound refusedSound
+      some-repeat i e = run-refused (refusedSound rs) s p (fields1059 rs) (rw (c, ne-eqb (present 0 64 rs) 64 n) e)
+
+      pub nothing : firstRepeat samePair 0 [] rs ≡ fine → refusedSound rs ≡ fine
+      unfolding refusedSound
+      nothing e = rw (c, ne-eqb (present 0 64 rs) 64 n) e
 
 -- ---- records without a fault, by the counts of their satellites
 
@@ -68,46 +73,56 @@ module _ (s : List ℕ) (p : ℕ) (sats gs : List ℕ) (zs : List ℤ) (d : Soun
       sound-counts a b = counts-fit 0 cs none a (omega (arith, l .all-counts))
 
       module _ (n : m ≡ 64 → ⊥) where
-        block : total (fields1059 (records1059 sats gs zs)) ≡ 6 + m * 11 + length sats * 19
-        block = omega (arith, bits-is (records1059 sats gs zs) cs (l .all-counts) counts, l .sum, em)
+        -- j is the first record that repeats an earlier one, or the number of records
+        module _ (j : ℕ) (ej : cond (ltb j (length sats)) (duplicate j) fine ≡ firstRepeat samePair 0 [] (records1059 sats gs zs)) where
+          pub sound-repeat : j < length sats → outcome (duplicate j) s ≡ writeSound s p (records1059 sats gs zs)
+          sound-repeat o =
+              some-repeat s p (records1059 sats gs zs) (crowd ∙ none) (λ e. n (sym seen ∙ e)) j
+              (sym ej ∙ ap (λ (b : Bool). cond b (duplicate j) fine) (lt-ltb j (length sats) o))
 
-        clear : refusedSound (records1059 sats gs zs) ≡ fine
-        clear = nothing s p (records1059 sats gs zs) (crowd ∙ none) (λ e. n (sym seen ∙ e))
+          module _ (v : length sats ≤ j) where
+            block : total (fields1059 (records1059 sats gs zs)) ≡ 6 + m * 11 + length sats * 19
+            block = omega (arith, bits-is (records1059 sats gs zs) cs (l .all-counts) counts, l .sum, em)
 
-        laid : fields1059 (records1059 sats gs zs) ≡ (bits 6 m ∷ []) ++ satellitesFrom 0 64 (records1059 sats gs zs)
-        unfolding fields1059
-        laid = ap (λ (k : ℕ). bits 6 k ∷ satellitesFrom 0 64 (records1059 sats gs zs)) seen
+            clear : refusedSound (records1059 sats gs zs) ≡ fine
+            clear =
+                nothing s p (records1059 sats gs zs) (crowd ∙ none) (λ e. n (sym seen ∙ e))
+                (sym ej ∙ ap (λ (b : Bool). cond b (duplicate j) fine) (le-ltb j (length sats) v))
 
-        begun : Left s p (fields1059 (records1059 sats gs zs)) s p ((bits 6 m ∷ []) ++ satellitesFrom 0 64 (records1059 sats gs zs))
-        begun = left-as laid (left-all s p (fields1059 (records1059 sats gs zs)))
+            laid : fields1059 (records1059 sats gs zs) ≡ (bits 6 m ∷ []) ++ satellitesFrom 0 64 (records1059 sats gs zs)
+            unfolding fields1059
+            laid = ap (λ (k : ℕ). bits 6 k ∷ satellitesFrom 0 64 (records1059 sats gs zs)) seen
 
-        pub sound-room : length s * 8 < p + (6 + m * 11 + length sats * 19) → outcome (room (6 + m * 11 + length sats * 19)) s ≡ writeSound s p (records1059 sats gs zs)
-        unfolding writeSound
-        sound-room o =
-            ap (λ (k : ℕ). outcome (room k) s) (sym block)
-            ∙ run-room (refusedSound (records1059 sats gs zs)) s p (fields1059 (records1059 sats gs zs)) clear (omega (arith, block))
+            begun : Left s p (fields1059 (records1059 sats gs zs)) s p ((bits 6 m ∷ []) ++ satellitesFrom 0 64 (records1059 sats gs zs))
+            begun = left-as laid (left-all s p (fields1059 (records1059 sats gs zs)))
 
-        module _ (few : length s ≤ 1023) (o : p + (6 + m * 11 + length sats * 19) ≤ length s * 8) where
-          whole : Fits s p (fields1059 (records1059 sats gs zs))
-          whole = record { few = few; within = omega (arith, block) }
-
-          pub sound-first : Fits s p (bits 6 m ∷ [])
-          sound-first = left-fits (bits 6 m ∷ []) (satellitesFrom 0 64 (records1059 sats gs zs)) begun whole
-
-          module _ (t : List ℕ) (q : ℕ) (did : Did s p (bits 6 m ∷ []) t q) where
-            rest : Left s p (fields1059 (records1059 sats gs zs)) t q (satellitesFrom 0 64 (records1059 sats gs zs) ++ [])
-            rest = left-as (sym (append-nil (satellitesFrom 0 64 (records1059 sats gs zs)))) (left-put (bits 6 m ∷ []) (satellitesFrom 0 64 (records1059 sats gs zs)) begun did)
-
-            pub sound-rest : Fits t q (satellitesFrom 0 64 (records1059 sats gs zs))
-            sound-rest = left-fits (satellitesFrom 0 64 (records1059 sats gs zs)) [] rest whole
-
-            pub sound-put : (u : List ℕ) → u ≡ putAll t q (satellitesFrom 0 64 (records1059 sats gs zs))
-                → outcome (Accepted (p + (6 + m * 11 + length sats * 19))) u ≡ writeSound s p (records1059 sats gs zs)
+            pub sound-room : length s * 8 < p + (6 + m * 11 + length sats * 19) → outcome (room (6 + m * 11 + length sats * 19)) s ≡ writeSound s p (records1059 sats gs zs)
             unfolding writeSound
-            sound-put u e =
-                ap₂ (λ (k : ℕ) (x : List ℕ). outcome (Accepted (p + k)) x) (sym block)
-                (left-none (left-put (satellitesFrom 0 64 (records1059 sats gs zs)) [] rest (record { end = refl; left = e })) .left)
-                ∙ sym (run-put (refusedSound (records1059 sats gs zs)) s p (fields1059 (records1059 sats gs zs)) clear (whole .within))
+            sound-room o =
+                ap (λ (k : ℕ). outcome (room k) s) (sym block)
+                ∙ run-room (refusedSound (records1059 sats gs zs)) s p (fields1059 (records1059 sats gs zs)) clear (omega (arith, block))
+
+            module _ (few : length s ≤ 1023) (o : p + (6 + m * 11 + length sats * 19) ≤ length s * 8) where
+              whole : Fits s p (fields1059 (records1059 sats gs zs))
+              whole = record { few = few; within = omega (arith, block) }
+
+              pub sound-first : Fits s p (bits 6 m ∷ [])
+              sound-first = left-fits (bits 6 m ∷ []) (satellitesFrom 0 64 (records1059 sats gs zs)) begun whole
+
+              module _ (t : List ℕ) (q : ℕ) (did : Did s p (bits 6 m ∷ []) t q) where
+                rest : Left s p (fields1059 (records1059 sats gs zs)) t q (satellitesFrom 0 64 (records1059 sats gs zs) ++ [])
+                rest = left-as (sym (append-nil (satellitesFrom 0 64 (records1059 sats gs zs)))) (left-put (bits 6 m ∷ []) (satellitesFrom 0 64 (records1059 sats gs zs)) begun did)
+
+                pub sound-rest : Fits t q (satellitesFrom 0 64 (records1059 sats gs zs))
+                sound-rest = left-fits (satellitesFrom 0 64 (records1059 sats gs zs)) [] rest whole
+
+                pub sound-put : (u : List ℕ) → u ≡ putAll t q (satellitesFrom 0 64 (records1059 sats gs zs))
+                    → outcome (Accepted (p + (6 + m * 11 + length sats * 19))) u ≡ writeSound s p (records1059 sats gs zs)
+                unfolding writeSound
+                sound-put u e =
+                    ap₂ (λ (k : ℕ) (x : List ℕ). outcome (Accepted (p + k)) x) (sym block)
+                    (left-none (left-put (satellitesFrom 0 64 (records1059 sats gs zs)) [] rest (record { end = refl; left = e })) .left)
+                    ∙ sym (run-put (refusedSound (records1059 sats gs zs)) s p (fields1059 (records1059 sats gs zs)) clear (whole .within))
 
 -- ---- the call
 

@@ -10,6 +10,8 @@ use Rattle.messages.specs.Every.{Every}
 use Rattle.messages.specs.Reader.{many}
 use Rattle.messages.specs.Records.{Rec1059, signalOf1059}
 use Rattle.messages.specs.Read1059.{biasAt}
+use Rattle.messages.specs.Writer.{fine, firstRepeat}
+use Rattle.messages.specs.Write1059.{samePair}
 use Rattle.messages.specs.Signals1059.{isEdition, isSignal1059}
 
 -- a satellite as it was read: its number and its records
@@ -43,9 +45,10 @@ unfoldable pub AscendingFrom : ℕ → List Sat → Type 0
 AscendingFrom a [] = Unit
 AscendingFrom a (x ∷ xs) = (a ≤ x .number) × AscendingFrom (suc (x .number)) xs
 
--- an edition that there is; satellites strictly ascending, each with a bias, and no signal that the edition reserves
+-- an edition that there is; satellites strictly ascending, each with a bias, no signal that the edition reserves, and no satellite and signal twice
 pub record Regular (edition : ℕ) (xs : List Sat) : Type 0 where
   pub known : isEdition edition ≡ true
   pub ascending : AscendingFrom 0 xs
   pub biased : Every (λ x. 1 ≤ length (x .records)) xs
   pub assigned : Every (λ r. isSignal1059 edition (signalOf1059 r) ≡ true) (recordsOf xs)
+  pub single : firstRepeat samePair 0 [] (recordsOf xs) ≡ fine

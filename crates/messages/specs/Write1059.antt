@@ -1,5 +1,5 @@
 -- Writing the bias block of message 1059. Assumes nothing.
-use mathlib.Core.Bool.{cond, not}
+use mathlib.Core.Bool.{Bool, cond, not, _&&_}
 use mathlib.Core.List.{List, [], _∷_, _++_}
 use Prim.Native.Nat.{ℕ, zero, suc, _+_}
 use lib.ListN.{length}
@@ -10,7 +10,7 @@ use Rattle.bits.specs.Signed.{fitsTwos, twosBits}
 use Rattle.bits.specs.Outcome.{Outcome}
 use Rattle.bits.specs.Fields.{Field, bits}
 use Rattle.messages.specs.Signals1059.{knownEdition, isSignal1059}
-use Rattle.messages.specs.Writer.{fine, keep, firstFault, writeRun}
+use Rattle.messages.specs.Writer.{fine, keep, firstFault, firstRepeat, writeRun}
 use Rattle.messages.specs.Records.{Rec1059, rec1059, records1059}
 
 -- ---- refusals
@@ -38,6 +38,10 @@ unfoldable pub present : ℕ → ℕ → List Rec1059 → ℕ
 present a zero rs = 0
 present a (suc n) rs = cond (eqb (length (ofSatellite a rs)) 0) 0 1 + present (suc a) n rs
 
+-- the same satellite and the same signal
+abbrev pub samePair : Rec1059 → Rec1059 → Bool
+samePair (rec1059 a g z) (rec1059 b h y) = eqb a b && eqb g h
+
 -- ---- the fields of a block
 
 -- signal (5) and bias (14) of each record
@@ -61,12 +65,13 @@ fields1059 rs = bits 6 (present 0 64 rs) ∷ satellitesFrom 0 64 rs
 
 -- ---- the call
 
--- records: the first fault, TooMany of one satellite, TooMany of all
+-- records: the first fault, TooMany of one satellite, TooMany of all, the first Duplicate
 unfoldable pub refusedRecords1059 : ℕ → List Rec1059 → Told Unit
 refusedRecords1059 edition rs =
     andThen (firstFault (fault1059 edition) 0 rs) (λ u.
     andThen (crowded 0 64 rs) (λ u.
-    cond (eqb (present 0 64 rs) 64) (tooMany 64) fine))
+    andThen (cond (eqb (present 0 64 rs) 64) (tooMany 64) fine) (λ u.
+    firstRepeat samePair 0 [] rs)))
 
 -- a call: Size of n bytes of data, of unequal lists, of over 1,953 records; then the records
 unfoldable pub refused1059 : ℕ → ℕ → List ℕ → List ℕ → List ℤ → Told Unit

@@ -10,9 +10,9 @@ use Rattle.bits.specs.Told.{Told, andThen, satellite, signal, range, tooMany}
 use Rattle.bits.specs.Signed.{fitsTwos}
 use Rattle.bits.specs.Outcome.{Outcome}
 use Rattle.messages.specs.Columns.{inMask}
-use Rattle.messages.specs.Writer.{fine, writeRun}
+use Rattle.messages.specs.Writer.{fine, firstRepeat, writeRun}
 use Rattle.messages.specs.Records.{Rec1059, rec1059, records1059}
-use Rattle.messages.specs.Write1059.{crowded, present, fields1059, refused1059}
+use Rattle.messages.specs.Write1059.{crowded, present, samePair, fields1059, refused1059}
 use Rattle.messages.specs.declared.write1059.Fault.{Fault}
 use Rattle.messages.specs.declared.write1059.Fault.the-variants as F
 
@@ -44,7 +44,10 @@ pub record Sound (sats gs : List ℕ) (zs : List ℤ) : Type 0 where
 
 -- what is left to refuse of them
 unfoldable pub refusedSound : List Rec1059 → Told Unit
-refusedSound rs = andThen (crowded 0 64 rs) (λ u. cond (eqb (present 0 64 rs) 64) (tooMany 64) fine)
+refusedSound rs =
+    andThen (crowded 0 64 rs) (λ u.
+    andThen (cond (eqb (present 0 64 rs) 64) (tooMany 64) fine) (λ u.
+    firstRepeat samePair 0 [] rs))
 
 -- and the block of them written from bit p on
 unfoldable pub writeSound : List ℕ → ℕ → List Rec1059 → Outcome ℕ (List ℕ)

@@ -1,5 +1,8 @@
 // The signals of message 1059 (DF380), by edition of their table: 1 or 2. Any other edition is refused with Kind.
 ghost use mathlib.Core.Path.{_≡_};
+ghost use mathlib.Core.Bool.{true, cond};
+ghost use Prim.Native.Nat.{ℕ, _<_};
+ghost use lib.Dec.{eqb};
 ghost use Rattle.messages.specs.Signals.{sig};
 ghost use Rattle.messages.specs.Signals1059.{isEdition, signals1059, namedSignal1059, namedNumber1059};
 ghost use Rattle.messages.specs.Answers.{toldSignal, toldNumber};
@@ -118,4 +121,12 @@ pub(crate) fn in_mask(mask: u32, number: u8) -> bool
         return false;
     }
     (mask >> number) % 2 == 1
+}
+
+// The mask with bit `number` set.
+pub(crate) fn with_number(mask: u32, number: u8) -> u32
+    requires { ⌜ number < 32 ⌝ }
+    ensures { λ r. ⌜ ((n : ℕ) → inMask r n ≡ cond (eqb number n) true (inMask mask n)) ⌝ }
+{
+    mask | (1u32 << number)
 }

@@ -1,25 +1,27 @@
 // Writing the bias block of message 1059.
 ghost use mathlib.Core.Path.{_≡_};
 ghost use mathlib.Core.Bool.{true, cond};
-ghost use mathlib.Core.List.{[], _∷_};
+ghost use mathlib.Core.List.{List, [], _∷_};
 ghost use Prim.Native.Nat.{ℕ, _≤_, _<_};
 ghost use lib.ListN.{length, getD};
 ghost use lib.Dec.{ltb, eqb};
-ghost use Rattle.bits.specs.Told.{tooMany};
+ghost use lib.IntN.{ℤ};
+ghost use Rattle.bits.specs.Told.{tooMany, duplicate};
 ghost use Rattle.bits.specs.Signed.{fitsTwos, twosBits};
 ghost use Rattle.bits.specs.Outcome.{outcome};
 ghost use Rattle.bits.specs.Fields.{bits, putAll};
 ghost use Rattle.messages.specs.Answers.{toldBlock};
 ghost use Rattle.messages.specs.Put.{Fits, Did};
 ghost use Rattle.messages.specs.Records.{records1059};
-ghost use Rattle.messages.specs.Writer.{fine, firstFault};
-ghost use Rattle.messages.specs.Write1059.{ofSatellite, satelliteFields, satellitesFrom, write1059};
+ghost use Rattle.messages.specs.Writer.{fine, firstFault, firstRepeat};
+ghost use Rattle.messages.specs.Write1059.{samePair, ofSatellite, satelliteFields, satellitesFrom, write1059};
 ghost use Rattle.messages.specs.WriteSteps1059.{toldFault, faultBy, Sound, writeSound, writeKnown, nextOf, countOf, Links, Linked, crowdedIn, presentIn};
 use crate::answer::BlockWritten;
 use crate::put;
 use crate::signals1059::in_mask;
 use crate::signals1059::is_edition;
 use crate::signals1059::mask_1059;
+use crate::signals1059::with_number;
 
 // Writes the block of the records from bit `start` on, the satellites ascending and the records of each in list order.
 // Record i is satellite i, signal i and bias i of three lists of one length. The signals are those of the edition, 1 or 2.
@@ -134,6 +136,10 @@ fn write_sound(
     if m == 64 {
         return BlockWritten::TooMany(64);
     }
+    let repeat = first_repeat(satellites, signals);
+    if repeat < n {
+        return BlockWritten::Duplicate(repeat);
+    }
     let bits = 6 + m * 11 + n * 19;
     if !put::has_room(bytes.len(), start, bits) {
         return BlockWritten::Room(bits);
@@ -202,6 +208,25 @@ fn one_if_some(count: u16) -> usize
     ensures { λ r. ⌜ (r ≡ cond (eqb count 0) 0 1) × (r ≤ 1) ⌝ }
 {
     if count == 0 { 0 } else { 1 }
+}
+
+// The index of the first record with the satellite and the signal of an earlier one, or the number of records. Of each
+// satellite the signals so far are the bits of one word.
+fn first_repeat(satellites: &[u8], signals: &[u8]) -> usize
+    requires { ⌜ (length (now satellites) ≡ length (now signals)) × ((i : ℕ) → i < length (now satellites) → getD (now satellites) i 0 < 64) × ((i : ℕ) → i < length (now satellites) → getD (now signals) i 0 < 32) ⌝ }
+    ensures { λ r. ⌜ ((zs : List ℤ) → length (now (satellites .entry)) ≡ length zs → cond (ltb r (length (now (satellites .entry)))) (duplicate r) fine ≡ firstRepeat samePair 0 [] (records1059 (now (satellites .entry)) (now (signals .entry)) zs)) ⌝ }
+{
+    let mut seen = [0u32; 64];
+    let mut i: usize = 0;
+    while i < satellites.len() {
+        let a = satellites[i] as usize;
+        if in_mask(seen[a], signals[i]) {
+            return i;
+        }
+        seen[a] = with_number(seen[a], signals[i]);
+        i += 1;
+    }
+    i
 }
 
 // The satellites that have a bias, ascending, each with its biases.

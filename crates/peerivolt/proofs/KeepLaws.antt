@@ -19,7 +19,7 @@ use Rattle.frames.proofs.WriteLaws as frame
 use Rattle.frames.proofs.CallLaws.{feed-keeps}
 use Rattle.messages.specs.Write1059.{write1059}
 use Rattle.messages.specs.Write1230.{write1230}
-use Rattle.messages.proofs.KeepLaws.{keeps-1059, keeps-1230}
+use Rattle.messages.proofs.KeepLaws.{refused-write-1059, refused-write-1230}
 use Rattle.peerivolt.specs.Extra.{inNumbers, Returned, returned, ifSized, answered}
 use Rattle.peerivolt.specs.Fields.{endValues}
 use Rattle.peerivolt.specs.Scanner.{fedValues, feeds}
@@ -62,8 +62,8 @@ unfolding feeds
 keeps-pv-feed held count piece out e =
     sized-keeps (held, out) (eqb (length held) 1029) e _ (answered-keeps (held, out) fedValues e (feedOf rtcm held count piece out) (feed-keeps rtcm held count piece out))
 
-pub keeps-pv-1059-write : (s : List ℕ) (p : ℕ) (sats gs : List ℕ) (zs : List ℤ) (e : List ℕ) → RefusedKeeps s (answered endValues e s (write1059 1 s p sats gs zs))
-keeps-pv-1059-write s p sats gs zs e = answered-keeps s endValues e (write1059 1 s p sats gs zs) (record { kept = λ q. keeps-1059 s p 1 sats gs zs .refused q })
+pub keeps-pv-1059-write : (edition : ℕ) (s : List ℕ) (p : ℕ) (sats gs : List ℕ) (zs : List ℤ) (e : List ℕ) → RefusedKeeps s (answered endValues e s (write1059 edition s p sats gs zs))
+keeps-pv-1059-write edition s p sats gs zs e = answered-keeps s endValues e (write1059 edition s p sats gs zs) (refused-write-1059 s p edition sats gs zs)
 
 pub keeps-pv-1230-write : (s : List ℕ) (p : ℕ) (gs : List ℕ) (zs : List ℤ) (e : List ℕ) → RefusedKeeps s (answered endValues e s (write1230 s p gs zs))
-keeps-pv-1230-write s p gs zs e = answered-keeps s endValues e (write1230 s p gs zs) (record { kept = λ q. keeps-1230 s p gs zs .refused q })
+keeps-pv-1230-write s p gs zs e = answered-keeps s endValues e (write1230 s p gs zs) (refused-write-1230 s p gs zs)

@@ -3,7 +3,6 @@ mod options;
 mod table;
 
 use frames::frame;
-use options::Shown;
 use options::Start;
 use reading::Step;
 use reading::arguments;
@@ -35,50 +34,62 @@ fn main() {
 fn show_all() {
     let mut out = io::large_buffer();
     let mut at: usize = 0;
-    let mut shown = Shown {
-        start: Start::Usual,
-        edition: 1,
-    };
+    let mut start = Start::Usual;
+    let mut edition: u32 = 1;
     let count = os::arg_count();
     let mut i: usize = 1;
     while i < count {
-        shown = show_argument(i, shown, &mut out, &mut at);
+        start = show_argument(i, start, edition, &mut out, &mut at);
+        edition = options::edition_after(i, edition);
         i += 1;
     }
 }
 
-// Shows what argument i names, and hands back how recordings are shown from there on.
-fn show_argument(i: usize, shown: Shown, out: &mut [u8; 65536], at: &mut usize) -> Shown {
+// Shows what argument i names, and hands back where blocks start from there on.
+fn show_argument(
+    i: usize,
+    start: Start,
+    edition: u32,
+    out: &mut [u8; 65536],
+    at: &mut usize,
+) -> Start {
     if options::is_number(i) {
-        return options::changed(i, shown);
+        return options::start_after(i, start);
     }
     match options::kind_at(i) {
-        Kind::File => show_file(i, shown, out, at),
-        Kind::Input => show_open(0, b"standard input", shown, out, at),
+        Kind::File => show_file(i, start, edition, out, at),
+        Kind::Input => show_open(0, b"standard input", start, edition, out, at),
         _ => {}
     }
-    shown
+    start
 }
 
-fn show_file(i: usize, shown: Shown, out: &mut [u8; 65536], at: &mut usize) {
+fn show_file(i: usize, start: Start, edition: u32, out: &mut [u8; 65536], at: &mut usize) {
     let mut path = io::buffer();
     let n = os::arg(i, &mut path);
     let fd = arguments::open(&path[..n]);
     if fd < 0 {
         return;
     }
-    show_open(fd, &path[..n], shown, out, at);
+    show_open(fd, &path[..n], start, edition, out, at);
     libc::close(fd);
 }
 
 // Shows an open recording.
-fn show_open(fd: i32, name: &[u8], shown: Shown, out: &mut [u8; 65536], at: &mut usize) {
-    show(fd, name, shown, out, at);
+fn show_open(
+    fd: i32,
+    name: &[u8],
+    start: Start,
+    edition: u32,
+    out: &mut [u8; 65536],
+    at: &mut usize,
+) {
+    show(fd, name, start, edition, out, at);
     printing::flush(out, at);
 }
 
 // Goes through the frames.
-fn show(fd: i32, name: &[u8], shown: Shown, out: &mut [u8; 65536], at: &mut usize) {
+fn show(fd: i32, name: &[u8], start: Start, edition: u32, out: &mut [u8; 65536], at: &mut usize) {
     let mut held = [0u8; 1029];
     let mut piece = io::large_buffer();
     let mut bytes = [0u8; 1029];
@@ -96,7 +107,7 @@ fn show(fd: i32, name: &[u8], shown: Shown, out: &mut [u8; 65536], at: &mut usiz
                 length,
                 account: a,
             } => {
-                tally = show_frame(&bytes, length, place, shown, tally, out, at);
+                tally = show_frame(&bytes, length, place, start, edition, tally, out, at);
                 account = a;
             }
             Step::Piece(a) => {
@@ -122,12 +133,12 @@ fn show_frame(
     bytes: &[u8; 1029],
     length: usize,
     place: u64,
-    shown: Shown,
+    start: Start,
+    edition: u32,
     tally: Tally,
     out: &mut [u8; 65536],
     at: &mut usize,
 ) -> Tally {
-    let start = shown.start;
     let frame = reading::frame_of(bytes, length);
     let number = reading::number_of(frame);
     let usual = usual_start(number);
@@ -139,7 +150,7 @@ fn show_frame(
         frame::data_of(frame),
         place,
         options::bit(start, usual),
-        shown.edition,
+        edition,
         tally,
         out,
         at,

@@ -13,12 +13,6 @@ pub enum Start {
     Wrong,
 }
 
-// How the recordings behind some arguments are shown: where their blocks start, and by which edition of the 1059 signals.
-pub struct Shown {
-    pub start: Start,
-    pub edition: u32,
-}
-
 // What all the arguments ask for: `unknown` is the place of an option that is not known, and `file` that of a recording,
 // or 0; `wrong` says that the last --start or --edition has no number that it takes.
 pub struct Asked {
@@ -110,19 +104,20 @@ pub fn kind_at(i: usize) -> Kind {
     arguments::kind_of(&word[..n], b"--start")
 }
 
-// The start or the edition that argument i names, for the recordings behind it.
-pub fn changed(i: usize, shown: Shown) -> Shown {
-    let start = shown.start;
+// Where blocks start behind argument i, the number of an option, if they start at `start` before it.
+pub fn start_after(i: usize, start: Start) -> Start {
     if of_edition(i) {
-        return Shown {
-            start,
-            edition: edition_at(i),
-        };
+        return start;
     }
-    Shown {
-        start: start_at(i),
-        edition: shown.edition,
+    start_at(i)
+}
+
+// The edition of the 1059 signals behind argument i, if it is `edition` before it.
+pub fn edition_after(i: usize, edition: u32) -> u32 {
+    if of_edition(i) {
+        return edition_at(i);
     }
+    edition
 }
 
 // The edition that argument i names, 1 or 2; else 0.

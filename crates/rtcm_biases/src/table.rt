@@ -54,7 +54,16 @@ pub fn block(
     let BlockRead::Records { count, end } = answer else {
         return one_refused(tally);
     };
-    rows(number, edition, &satellites, &signals, &biases, count, out, at);
+    rows(
+        number,
+        edition,
+        &satellites,
+        &signals,
+        &biases,
+        count,
+        out,
+        at,
+    );
     left_over(data.len(), end, out, at);
     one_read(tally)
 }

@@ -5,10 +5,10 @@ use Rattle.rtcm_biases.proofs.show.Statement.{statement}
 use Rattle.rtcm_biases.proofs.show.Tie as tie
 
 abbrev Inv-loop : tie.InvT-loop
-Inv-loop fd name shown out₀ at₀ held₀ piece₀ bytes₀ account₀ tally₀ turns₀ out at held piece bytes account tally turns = Unit {0}
+Inv-loop fd name start edition out₀ at₀ held₀ piece₀ bytes₀ account₀ tally₀ turns₀ out at held piece bytes account tally turns = Unit {0}
 
 abbrev μ-loop : tie.MeasureT-loop
-μ-loop fd name shown out₀ at₀ held₀ piece₀ bytes₀ account₀ tally₀ turns₀ out at held piece bytes account tally turns = turns
+μ-loop fd name start edition out₀ at₀ held₀ piece₀ bytes₀ account₀ tally₀ turns₀ out at held piece bytes account tally turns = turns
 
 large-buffer-requires : tie.Need-large-buffer-requires Inv-loop μ-loop
 large-buffer-requires c κs = tt

@@ -5,10 +5,10 @@ use Rattle.rtcm_biases.proofs.show_all.Statement.{statement}
 use Rattle.rtcm_biases.proofs.show_all.Tie as tie
 
 abbrev Inv-loop : tie.InvT-loop
-Inv-loop out₀ at₀ shown₀ count i₀ out at shown i = Unit {0}
+Inv-loop out₀ at₀ start₀ edition₀ count i₀ out at start edition i = Unit {0}
 
 abbrev μ-loop : tie.MeasureT-loop
-μ-loop out₀ at₀ shown₀ count i₀ out at shown i = count - i
+μ-loop out₀ at₀ start₀ edition₀ count i₀ out at start edition i = count - i
 
 large-buffer-requires : tie.Need-large-buffer-requires Inv-loop μ-loop
 large-buffer-requires c κs = tt
@@ -21,6 +21,9 @@ loop-holds c = tt
 
 show-argument-requires : tie.Need-show-argument-requires Inv-loop μ-loop
 show-argument-requires c κs = tt
+
+edition-after-requires : tie.Need-edition-after-requires Inv-loop μ-loop
+edition-after-requires c κs = tt
 
 add-i : tie.Need-add-i Inv-loop μ-loop
 add-i c = omega arith
@@ -44,6 +47,7 @@ show-all-spec =
     arg-count-requires
     loop-holds
     show-argument-requires
+    edition-after-requires
     add-i
     loop-less
     loop-again

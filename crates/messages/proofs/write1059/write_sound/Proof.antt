@@ -14,7 +14,7 @@ use Rattle.messages.specs.Write1059.{satellitesFrom}
 use Rattle.messages.specs.WriteSteps1059.{writeSound}
 use borrow.Author.Needs.{needs}
 use Rattle.messages.proofs.LinkLaws.{linked-none}
-use Rattle.messages.proofs.Write1059Laws.{sound-crowded, sound-all, sound-counts, sound-room, sound-first, sound-rest, sound-put}
+use Rattle.messages.proofs.Write1059Laws.{sound-crowded, sound-all, sound-repeat, sound-counts, sound-room, sound-first, sound-rest, sound-put}
 use Rattle.messages.proofs.write1059.write_sound.Statement.{statement}
 use Rattle.messages.proofs.write1059.write_sound.Tie as tie
 
@@ -35,52 +35,63 @@ returns-2 c =
     let a = s .args in
     sound-all (a .bytes .now) (a .start) (a .satellites .now) (a .signals .now) (a .biases .now) (s .pre .1) _ _ _ (c .before .before .before .before .before .before .link .ensures) _ (c .before .before .before .before .first-crowded .ensures .0) (c .before .before .before .if1 .left) _ (c .before .present .ensures .0) (c .if2 .taken)
 
+first-repeat-requires : tie.Need-first-repeat-requires
+first-repeat-requires c κs = let d = c .before .before .before .before .before .before .before .before .before .before .before .before .before .pre .1 in (d .signals, d .low, d .short)
+
 returns-3 : tie.Need-returns-3
 returns-3 c =
     let s = c .before .before .before .before .before .before .before .before .before .before .before .before .before .before .before in
     let a = s .args in
-    sound-room (a .bytes .now) (a .start) (a .satellites .now) (a .signals .now) (a .biases .now) (s .pre .1) _ _ _ (c .before .before .before .before .before .before .before .before .link .ensures) _ (c .before .before .before .before .before .before .first-crowded .ensures .0) (c .before .before .before .before .before .if1 .left) _ (c .before .before .before .present .ensures .0) (c .before .before .if2 .left)
-    (leb-false _ _ (sym (c .before .has-room .ensures) ∙ not-true _ (c .if3 .taken)))
+    sound-repeat (a .bytes .now) (a .start) (a .satellites .now) (a .signals .now) (a .biases .now) (s .pre .1) _ _ _ (c .before .before .before .before .before .before .before .before .link .ensures) _ (c .before .before .before .before .before .before .first-crowded .ensures .0) (c .before .before .before .before .before .if1 .left) _ (c .before .before .before .present .ensures .0) (c .before .before .if2 .left)
+    _ (c .before .first-repeat .ensures (a .biases .now) (s .pre .1 .biases)) (c .if3 .taken)
+
+returns-4 : tie.Need-returns-4
+returns-4 c =
+    let s = c .before .before .before .before .before .before .before .before .before .before .before .before .before .before .before .before .before in
+    let a = s .args in
+    sound-room (a .bytes .now) (a .start) (a .satellites .now) (a .signals .now) (a .biases .now) (s .pre .1) _ _ _ (c .before .before .before .before .before .before .before .before .before .before .link .ensures) _ (c .before .before .before .before .before .before .before .before .first-crowded .ensures .0) (c .before .before .before .before .before .before .before .if1 .left) _ (c .before .before .before .before .before .present .ensures .0) (c .before .before .before .before .if2 .left)
+    _ (c .before .before .before .first-repeat .ensures (a .biases .now) (s .pre .1 .biases)) (c .before .before .if3 .left)
+    (leb-false _ _ (sym (c .before .has-room .ensures) ∙ not-true _ (c .if4 .taken)))
 
 -- ---- where the block fits
 
-abbrev start : tie.Else3 → tie.Start
-start c = c .before .before .before .before .before .before .before .before .before .before .before .before .before .before .before
+abbrev start : tie.Else4 → tie.Start
+start c = c .before .before .before .before .before .before .before .before .before .before .before .before .before .before .before .before .before
 
 -- the bits of the block
-abbrev size : tie.Else3 → ℕ
-size c = 6 + c .before .before .before .present .result * 11 + length (start c .args .satellites .now) * 19
+abbrev size : tie.Else4 → ℕ
+size c = 6 + c .before .before .before .before .before .present .result * 11 + length (start c .args .satellites .now) * 19
 
-abbrev records : tie.Else3 → List Rec1059
+abbrev records : tie.Else4 → List Rec1059
 records c = records1059 (start c .args .satellites .now) (start c .args .signals .now) (start c .args .biases .now)
 
-room : (c : tie.Else3) → start c .args .start + size c ≤ length (start c .args .bytes .now) * 8
-room c = leb-true _ _ (sym (c .before .has-room .ensures) ∙ not-false _ (c .if3 .left))
+room : (c : tie.Else4) → start c .args .start + size c ≤ length (start c .args .bytes .now) * 8
+room c = leb-true _ _ (sym (c .before .has-room .ensures) ∙ not-false _ (c .if4 .left))
 
-narrow : (c : tie.Else3) (i : ℕ) → i < 64 → getD (c .before .before .before .before .before .before .before .before .link .last .1 .1 .1 .0) i 0 < 32
+narrow : (c : tie.Else4) (i : ℕ) → i < 64 → getD (c .before .before .before .before .before .before .before .before .before .before .link .last .1 .1 .1 .0) i 0 < 32
 narrow c =
     let s = start c in
     let a = s .args in
     sound-counts (a .bytes .now) (a .start) (a .satellites .now) (a .signals .now) (a .biases .now) (s .pre .1) _ _ _
-    (c .before .before .before .before .before .before .before .before .link .ensures) _ (c .before .before .before .before .before .before .first-crowded .ensures .0) (c .before .before .before .before .before .if1 .left) _ (c .before .before .before .present .ensures .0)
+    (c .before .before .before .before .before .before .before .before .before .before .link .ensures) _ (c .before .before .before .before .before .before .before .before .first-crowded .ensures .0) (c .before .before .before .before .before .before .before .if1 .left) _ (c .before .before .before .before .before .present .ensures .0)
 
-first-fits : (c : tie.Else3) → Fits (start c .args .bytes .now) (start c .args .start) (bits 6 (c .before .before .before .present .result) ∷ [])
+first-fits : (c : tie.Else4) → Fits (start c .args .bytes .now) (start c .args .start) (bits 6 (c .before .before .before .before .before .present .result) ∷ [])
 first-fits c =
     let s = start c in
     let a = s .args in
     sound-first (a .bytes .now) (a .start) (a .satellites .now) (a .signals .now) (a .biases .now) (s .pre .1) _ _ _
-    (c .before .before .before .before .before .before .before .before .link .ensures) _ (c .before .before .before .before .before .before .first-crowded .ensures .0) (c .before .before .before .before .before .if1 .left) _ (c .before .before .before .present .ensures .0)
-    (c .before .before .if2 .left) (s .pre .0) (room c)
+    (c .before .before .before .before .before .before .before .before .before .before .link .ensures) _ (c .before .before .before .before .before .before .before .before .first-crowded .ensures .0) (c .before .before .before .before .before .before .before .if1 .left) _ (c .before .before .before .before .before .present .ensures .0)
+    (c .before .before .before .before .if2 .left) _ (c .before .before .before .first-repeat .ensures (a .biases .now) (s .pre .1 .biases)) (c .before .before .if3 .left) (s .pre .0) (room c)
 
 -- t and q are the data and the place behind the satellite count
-module _ (c : tie.Else3) (t : List ℕ) (q : ℕ) (d : Did (start c .args .bytes .now) (start c .args .start) (bits 6 (c .before .before .before .present .result) ∷ []) t q) where
+module _ (c : tie.Else4) (t : List ℕ) (q : ℕ) (d : Did (start c .args .bytes .now) (start c .args .start) (bits 6 (c .before .before .before .before .before .present .result) ∷ []) t q) where
   rest-fits : Fits t q (satellitesFrom 0 64 (records c))
   rest-fits =
       let s = start c in
       let a = s .args in
       sound-rest (a .bytes .now) (a .start) (a .satellites .now) (a .signals .now) (a .biases .now) (s .pre .1) _ _ _
-      (c .before .before .before .before .before .before .before .before .link .ensures) _ (c .before .before .before .before .before .before .first-crowded .ensures .0) (c .before .before .before .before .before .if1 .left) _ (c .before .before .before .present .ensures .0)
-      (c .before .before .if2 .left) (s .pre .0) (room c) t q d
+      (c .before .before .before .before .before .before .before .before .before .before .link .ensures) _ (c .before .before .before .before .before .before .before .before .first-crowded .ensures .0) (c .before .before .before .before .before .before .before .if1 .left) _ (c .before .before .before .before .before .present .ensures .0)
+      (c .before .before .before .before .if2 .left) _ (c .before .before .before .first-repeat .ensures (a .biases .now) (s .pre .1 .biases)) (c .before .before .if3 .left) (s .pre .0) (room c) t q d
 
   written : (u : List ℕ) → u ≡ putAll t q (satellitesFrom 0 64 (records c))
       → outcome (Accepted (start c .args .start + size c)) u ≡ writeSound (start c .args .bytes .now) (start c .args .start) (records c)
@@ -88,20 +99,20 @@ module _ (c : tie.Else3) (t : List ℕ) (q : ℕ) (d : Did (start c .args .bytes
       let s = start c in
       let a = s .args in
       sound-put (a .bytes .now) (a .start) (a .satellites .now) (a .signals .now) (a .biases .now) (s .pre .1) _ _ _
-      (c .before .before .before .before .before .before .before .before .link .ensures) _ (c .before .before .before .before .before .before .first-crowded .ensures .0) (c .before .before .before .before .before .if1 .left) _ (c .before .before .before .present .ensures .0)
-      (c .before .before .if2 .left) (s .pre .0) (room c) t q d u e
+      (c .before .before .before .before .before .before .before .before .before .before .link .ensures) _ (c .before .before .before .before .before .before .before .before .first-crowded .ensures .0) (c .before .before .before .before .before .before .before .if1 .left) _ (c .before .before .before .before .before .present .ensures .0)
+      (c .before .before .before .before .if2 .left) _ (c .before .before .before .first-repeat .ensures (a .biases .now) (s .pre .1 .biases)) (c .before .before .if3 .left) (s .pre .0) (room c) t q d u e
 
 unsigned-requires : tie.Need-unsigned-requires
-unsigned-requires c κs = (first-fits (c .before), omega arith, omega arith, omega (arith, c .before .before .before .before .present .ensures .1))
+unsigned-requires c κs = (first-fits (c .before), omega arith, omega arith, omega (arith, c .before .before .before .before .before .before .present .ensures .1))
 
 put-satellites-requires : tie.Need-put-satellites-requires
-put-satellites-requires c κs = (rest-fits (c .before .before .before .before .before .before .before .before) _ _ (c .before .before .before .before .before .before .unsigned .ensures), c .before .before .before .before .before .before .before .before .before .before .before .before .before .before .before .before .before .before .before .before .before .before .before .pre .1, c .before .before .before .before .before .before .before .before .before .before .before .before .before .before .before .before .link .ensures, narrow (c .before .before .before .before .before .before .before .before))
+put-satellites-requires c κs = (rest-fits (c .before .before .before .before .before .before .before .before) _ _ (c .before .before .before .before .before .before .unsigned .ensures), c .before .before .before .before .before .before .before .before .before .before .before .before .before .before .before .before .before .before .before .before .before .before .before .before .before .pre .1, c .before .before .before .before .before .before .before .before .before .before .before .before .before .before .before .before .before .before .link .ensures, narrow (c .before .before .before .before .before .before .before .before))
 
-add-t23 : tie.Need-add-t23
-add-t23 c = omega (arith, room (c .before .before .before .before .before .before .before .before .before .before .before))
+add-t24 : tie.Need-add-t24
+add-t24 c = omega (arith, room (c .before .before .before .before .before .before .before .before .before .before .before), start (c .before .before .before .before .before .before .before .before .before .before .before) .pre .0)
 
-returns-4 : tie.Need-returns-4
-returns-4 c = written (c .before .before .before .before .before .before .before .before .before .before .before) _ _ (c .before .before .before .before .before .before .before .before .before .unsigned .ensures) _ (c .before .before .put-satellites .ensures)
+returns-5 : tie.Need-returns-5
+returns-5 c = written (c .before .before .before .before .before .before .before .before .before .before .before) _ _ (c .before .before .before .before .before .before .before .before .before .unsigned .ensures) _ (c .before .before .put-satellites .ensures)
 
 pub write-sound-spec : {M : Type 1} → statement M
 write-sound-spec =
@@ -113,14 +124,16 @@ write-sound-spec =
     returns
     (λ c κs. search needs)
     returns-2
+    first-repeat-requires
+    returns-3
     (λ c. search needs)
     (λ c. search needs)
     (λ c. search needs)
     (λ c. search needs)
     (λ c κs. search needs)
-    returns-3
+    returns-4
     unsigned-requires
     put-satellites-requires
-    add-t23
+    add-t24
     (λ c. search needs)
-    returns-4)
+    returns-5)
