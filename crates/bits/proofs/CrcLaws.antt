@@ -1,8 +1,8 @@
 -- Laws of the checksum: of an exclusive-or, its bound, and of an append. Assumes nothing.
-use mathlib.Core.Path.{_≡_, refl, ap, ap₂, _∙_}
+use mathlib.Core.Path.{_≡_, refl, sym, ap, ap₂, _∙_}
 use mathlib.Core.List.{List, [], _∷_, _++_}
 use Prim.Native.Nat.{ℕ, zero, suc, _+_, _*_, _/_, _%_, _^_, _≤_, _<_}
-use native.Mathlib.Nat.{mod-lt, zero-lt-suc}
+use native.Mathlib.Nat.{mod-lt, zero-lt-suc, mul-assoc, mul-one, pow-suc}
 use native.Mathlib.Omega.{arith}
 use lib.ListN.{length, getD, drop, drop-of-length-le}
 use lib.Seq.{drop-cons}
@@ -12,9 +12,45 @@ use lib.Bits.{bitXor, xor-shr, xor-mod, xor-lt}
 use Rattle.bits.specs.Crc.{crcBit, crcBits, crcByte, crcFrom, crc, xors}
 use Rattle.bits.proofs.XorLaws.{xor-swap, xor-shl, xor-times}
 
+-- ---- the equations of a checksum: for the layers above, which cite them in place of the definitions
+
+pub bit-is : (c : ℕ) → crcBit c ≡ bitXor (c / 2 ^ 23 % 2 * 0x864CFB) (c * 2 % 2 ^ 24)
+unfolding crcBit
+bit-is c = refl
+
+pub bits-none : (c : ℕ) → crcBits 0 c ≡ c
+unfolding crcBits
+bits-none c = refl
+
+pub bits-more : (n c : ℕ) → crcBits (suc n) c ≡ crcBit (crcBits n c)
+unfolding crcBits
+bits-more n c = refl
+
+pub byte-is : (c b : ℕ) → crcByte c b ≡ crcBits 8 (bitXor (b * 2 ^ 16) c)
+unfolding crcByte
+byte-is c b = refl
+
+pub from-nil : (c : ℕ) → crcFrom c [] ≡ c
+unfolding crcFrom
+from-nil c = refl
+
+pub from-cons : (c b : ℕ) (s : List ℕ) → crcFrom c (b ∷ s) ≡ crcFrom (crcByte c b) s
+unfolding crcFrom
+from-cons c b s = refl
+
+pub crc-is : (s : List ℕ) → crc s ≡ crcFrom 0 s
+unfolding crc
+crc-is s = refl
+
+-- zero stays zero
+pub bits-zero : (n : ℕ) → crcBits n 0 ≡ 0
+unfolding crcBits crcBit
+bits-zero zero = refl
+bits-zero (suc n) = ap crcBit (bits-zero n)
+
 -- ---- linear
 
-bit-linear : (x y : ℕ) → crcBit (bitXor x y) ≡ bitXor (crcBit x) (crcBit y)
+pub bit-linear : (x y : ℕ) → crcBit (bitXor x y) ≡ bitXor (crcBit x) (crcBit y)
 unfolding crcBit
 bit-linear x y =
     ap₂ bitXor
@@ -48,6 +84,24 @@ from-linear (x ∷ a) (y ∷ b) c d e =
 pub crc-linear : (a b : List ℕ) → length a ≡ length b → crc (xors a b) ≡ bitXor (crc a) (crc b)
 unfolding crc
 crc-linear a b e = from-linear a b 0 0 e
+
+-- ---- shifts
+
+bit-shift : (y : ℕ) → y * 2 < 2 ^ 24 → crcBit y ≡ y * 2
+unfolding crcBit
+bit-shift y h =
+    let z : y / 2 ^ 23 % 2 ≡ 0 = omega arith in
+    let w : y * 2 % 2 ^ 24 ≡ y * 2 = omega arith in
+    rw (z, w)
+
+-- where no 1 falls out, the steps are a shift
+pub bits-shift : (w x : ℕ) → x * 2 ^ w < 2 ^ 24 → crcBits w x ≡ x * 2 ^ w
+unfolding crcBits
+bits-shift zero x h = sym (mul-one x)
+bits-shift (suc w) x h =
+    let e : x * 2 ^ suc w ≡ x * 2 ^ w * 2 = ap (λ (n : ℕ). x * n) (pow-suc 2 w) ∙ sym (mul-assoc x (2 ^ w) 2) in
+    let g : x * 2 ^ w * 2 < 2 ^ 24 = omega arith in
+    ap crcBit (bits-shift w x (omega arith)) ∙ bit-shift (x * 2 ^ w) g ∙ sym e
 
 -- ---- bounds
 

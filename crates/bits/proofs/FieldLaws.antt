@@ -14,6 +14,18 @@ use Rattle.bits.specs.Field.{bitAt, field}
 pub bit-lt : (s : List ℕ) (i : ℕ) → bitAt s i < 2
 bit-lt s i = mod-lt (getD s (i / 8) 0 / 2 ^ (7 - i % 8)) (zero-lt-suc 1)
 
+-- ---- the equations of a field
+
+pub field-none : (s : List ℕ) (p : ℕ) → field s p 0 ≡ 0
+unfolding field
+field-none s p = refl
+
+pub field-more : (s : List ℕ) (p w : ℕ) → field s p (suc w) ≡ field s p w * 2 + bitAt s (p + w)
+unfolding field
+field-more s p w = refl
+
+-- ---- laws of any field
+
 -- a field of w bits is below 2 ^ w
 pub field-lt : (s : List ℕ) (p w : ℕ) → field s p w < 2 ^ w
 unfolding field

@@ -2,7 +2,7 @@
 use mathlib.Core.Path.{_≡_, sym, ap, ap₂, _∙_}
 use mathlib.Core.Bool.{Bool}
 use Prim.Native.Nat.{ℕ, zero, suc, _+_, _*_, _/_, _%_, _^_, _<_}
-use native.Mathlib.Nat.{mod-lt, mod-mod, mul-assoc, mul-one, pow-suc}
+use native.Mathlib.Nat.{mod-lt, mod-mod}
 use native.Mathlib.Omega.{arith}
 use lib.Dec.{eqb, eqb→eq}
 use lib.ListN.{getD}
@@ -10,7 +10,7 @@ use lib.Pow.{pow-pos, field, mod-pow-add}
 use lib.Bits.{bitXor, xor-shifted, xor-mod, xor-lt, xor-comm, xor-self, xor-zero-r}
 use Rattle.crctable.specs.Table.{table}
 use Rattle.bits.specs.Crc.{crcBit, crcBits, crcByte}
-use Rattle.bits.proofs.CrcLaws.{bits-linear}
+use Rattle.bits.proofs.CrcLaws.{bits-linear, bits-shift}
 use Rattle.bits.proofs.XorLaws.{xor-assoc, xor-shl}
 use Rattle.bits.proofs.EveryPlace.{at}
 
@@ -47,22 +47,6 @@ bits-mod : (n x : ℕ) → crcBits (suc n) x ≡ crcBits (suc n) (x % 2 ^ 24)
 unfolding crcBits
 bits-mod zero x = bit-mod x
 bits-mod (suc n) x = ap crcBit (bits-mod n x)
-
-bit-shift : (y : ℕ) → y * 2 < 2 ^ 24 → crcBit y ≡ y * 2
-unfolding crcBit
-bit-shift y h =
-    let z : y / 2 ^ 23 % 2 ≡ 0 = omega arith in
-    let w : y * 2 % 2 ^ 24 ≡ y * 2 = omega arith in
-    rw (z, w)
-
--- where no 1 falls out, the steps are a shift
-bits-shift : (w x : ℕ) → x * 2 ^ w < 2 ^ 24 → crcBits w x ≡ x * 2 ^ w
-unfolding crcBits
-bits-shift zero x h = sym (mul-one x)
-bits-shift (suc w) x h =
-    let e : x * 2 ^ suc w ≡ x * 2 ^ w * 2 = ap (λ (n : ℕ). x * n) (pow-suc 2 w) ∙ sym (mul-assoc x (2 ^ w) 2) in
-    let g : x * 2 ^ w * 2 < 2 ^ 24 = omega arith in
-    ap crcBit (bits-shift w x (omega arith)) ∙ bit-shift (x * 2 ^ w) g ∙ sym e
 
 -- ---- a byte by the table
 
