@@ -118,7 +118,7 @@ $(B)/pic/%_table.o: c/%.c Makefile
 
 # ---- Programs.
 
-TESTS := test_calls test_random test_recordings test_answers
+TESTS := test_calls test_1001 test_random test_recordings test_answers
 PROGRAMS := $(TESTS) relay
 HELPERS := crumbs expected
 
@@ -185,12 +185,14 @@ check-header:
 check-opt: $(TESTS:%=$(B)/opt/%) $(B)/opt/test_calls_shared
 	$(B)/opt/test_calls
 	$(B)/opt/test_calls_shared
+	$(B)/opt/test_1001 40000 every
 	$(B)/opt/test_random 120000
 	$(B)/opt/test_recordings $(RECORDINGS)
 	$(B)/opt/test_answers $(ANSWERS)
 
 check-san: $(TESTS:%=$(B)/san/%)
 	$(B)/san/test_calls
+	$(B)/san/test_1001 10000
 	$(B)/san/test_random 40000
 	$(B)/san/test_recordings $(RECORDINGS)
 	$(B)/san/test_answers $(ANSWERS)
@@ -198,7 +200,7 @@ check-san: $(TESTS:%=$(B)/san/%)
 check-valgrind: $(TESTS:%=$(B)/opt/%)
 	@if command -v valgrind >/dev/null; then \
 	    run() { echo "valgrind $$*"; valgrind -q --error-exitcode=1 --leak-check=full --errors-for-leak-kinds=definite "$$@"; }; \
-	    run $(B)/opt/test_calls && run $(B)/opt/test_random 2000 && run $(B)/opt/test_recordings $(RECORDINGS) && \
+	    run $(B)/opt/test_calls && run $(B)/opt/test_1001 500 && run $(B)/opt/test_random 2000 && run $(B)/opt/test_recordings $(RECORDINGS) && \
 	    run $(B)/opt/test_answers $(ANSWERS); \
 	else \
 	    echo "valgrind: skipped, since it is not here"; \

@@ -742,6 +742,117 @@ float ref_1230_metres(int16_t raw)
     return (float)raw * 0.02f;
 }
 
+/* ---- Message 1001. ---- */
+
+uint32_t ref_1001_read(const uint8_t *data, size_t data_len, uint8_t *satellites, size_t satellites_len, uint8_t *codes,
+                       size_t codes_len, uint32_t *pseudoranges, size_t pseudoranges_len, int32_t *phases,
+                       size_t phases_len, uint8_t *locks, size_t locks_len, uint64_t *extra, size_t extra_len)
+{
+    if (extra_len != PV_EXTRA_SIZE)
+        return PV_SIZE;
+    if (data_len > PV_DATA_MAX || satellites_len != codes_len || satellites_len != pseudoranges_len ||
+        satellites_len != phases_len || satellites_len != locks_len)
+        return refuse(extra, PV_SIZE, 0);
+    struct cursor cursor = { data, data_len, 0, 0, 0 };
+    uint64_t number = next_field(&cursor, 12);
+    if (cursor.is_short)
+        return refuse_short(extra, data_len, cursor.place, cursor.width);
+    if (number != 1001)
+        return refuse(extra, PV_KIND, 0);
+    uint64_t station = next_field(&cursor, 12), epoch = next_field(&cursor, 30), synchronous = next_field(&cursor, 1);
+    uint64_t count = next_field(&cursor, 5), smoothing = next_field(&cursor, 1), interval = next_field(&cursor, 3);
+    uint64_t rows[31][5];
+    for (size_t i = 0; i < count && !cursor.is_short; i++) {
+        rows[i][0] = next_field(&cursor, 6);
+        rows[i][1] = next_field(&cursor, 1);
+        rows[i][2] = next_field(&cursor, 24);
+        rows[i][3] = as_twos(next_field(&cursor, 20), 20);
+        rows[i][4] = next_field(&cursor, 7);
+    }
+    if (cursor.is_short)
+        return refuse_short(extra, data_len, cursor.place, cursor.width);
+    if (satellites_len < count)
+        return refuse(extra, PV_ROOM, count);
+    for (size_t i = 0; i < count; i++) {
+        satellites[i] = (uint8_t)rows[i][0];
+        codes[i] = (uint8_t)rows[i][1];
+        pseudoranges[i] = (uint32_t)rows[i][2];
+        phases[i] = (int32_t)(int64_t)rows[i][3];
+        locks[i] = (uint8_t)rows[i][4];
+    }
+    accept_two(extra, count, cursor.place);
+    extra[2] = station;
+    extra[3] = epoch;
+    extra[4] = synchronous;
+    extra[5] = smoothing;
+    extra[6] = interval;
+    return PV_ACCEPTED;
+}
+
+uint32_t ref_1001_write(uint8_t *data, size_t data_len, uint32_t station, uint32_t epoch, uint32_t synchronous,
+                        uint32_t smoothing, uint32_t interval, const uint8_t *satellites, size_t satellites_len,
+                        const uint8_t *codes, size_t codes_len, const uint32_t *pseudoranges, size_t pseudoranges_len,
+                        const int32_t *phases, size_t phases_len, const uint8_t *locks, size_t locks_len,
+                        uint64_t *extra, size_t extra_len)
+{
+    const uint64_t front[] = { 1001, station, epoch, synchronous, satellites_len, smoothing, interval };
+    const size_t widths[] = { 12, 12, 30, 1, 5, 1, 3 };
+    if (extra_len != PV_EXTRA_SIZE)
+        return PV_SIZE;
+    if (data_len > PV_DATA_MAX || satellites_len != codes_len || satellites_len != pseudoranges_len ||
+        satellites_len != phases_len || satellites_len != locks_len)
+        return refuse(extra, PV_SIZE, 0);
+    for (size_t k = 0; k < 7; k++)
+        if (k != 4 && !fits_unsigned(front[k], widths[k]))
+            return refuse(extra, PV_RANGE, 0);
+    for (size_t i = 0; i < satellites_len; i++) {
+        if (satellites[i] > 63)
+            return refuse(extra, PV_SATELLITE, i);
+        if (codes[i] > 1 || pseudoranges[i] > 0xFFFFFF || !fits_twos(phases[i], 20) || locks[i] > 127)
+            return refuse(extra, PV_RANGE, i);
+    }
+    if (satellites_len > 31)
+        return refuse(extra, PV_TOO_MANY, 32);
+    if (!fits_in(data_len, 0, 64 + 58 * satellites_len))
+        return refuse(extra, PV_ROOM, 64 + 58 * satellites_len);
+    size_t place = 0;
+    for (size_t k = 0; k < 7; place += widths[k++])
+        put_field(data, place, widths[k], front[k]);
+    for (size_t i = 0; i < satellites_len; i++, place += 58) {
+        put_field(data, place, 6, satellites[i]);
+        put_field(data, place + 6, 1, codes[i]);
+        put_field(data, place + 7, 24, pseudoranges[i]);
+        put_field(data, place + 31, 20, (uint64_t)(int64_t)phases[i] & 0xFFFFF);
+        put_field(data, place + 51, 7, locks[i]);
+    }
+    return accept_one(extra, place);
+}
+
+/* 0 absent, 1 a count, 2 metres; the count, or the bits of the double. */
+static uint32_t measured(uint64_t *extra, size_t extra_len, uint64_t kind, uint64_t count, double metres)
+{
+    if (extra_len != PV_EXTRA_SIZE)
+        return PV_SIZE;
+    if (kind == 2)
+        memcpy(&count, &metres, sizeof count);
+    return accept_two(extra, kind, count);
+}
+
+uint32_t ref_1001_pseudorange(uint32_t raw, uint64_t *extra, size_t extra_len)
+{
+    return measured(extra, extra_len, raw == 0xFFFFFF ? 0 : 2, 0, (double)raw * 0.02);
+}
+
+uint32_t ref_1001_phase(int32_t raw, uint64_t *extra, size_t extra_len)
+{
+    return measured(extra, extra_len, raw == -0x80000 ? 0 : 2, 0, (double)raw * 0.0005);
+}
+
+uint32_t ref_1001_lock(uint32_t raw, uint64_t *extra, size_t extra_len)
+{
+    return measured(extra, extra_len, 1, raw, 0);
+}
+
 /* ---- Signal tables. ---- */
 
 static struct table table_of(uint32_t system)

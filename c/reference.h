@@ -56,6 +56,18 @@ float ref_1230_metres(int16_t raw);
 
 uint32_t ref_1059_signal_of(uint32_t edition, uint32_t number, uint64_t *extra, size_t extra_len);
 uint32_t ref_1059_number_of(uint32_t edition, uint32_t band, uint32_t letter, uint64_t *extra, size_t extra_len);
+uint32_t ref_1001_read(const uint8_t *data, size_t data_len, uint8_t *satellites, size_t satellites_len, uint8_t *codes,
+                       size_t codes_len, uint32_t *pseudoranges, size_t pseudoranges_len, int32_t *phases,
+                       size_t phases_len, uint8_t *locks, size_t locks_len, uint64_t *extra, size_t extra_len);
+uint32_t ref_1001_write(uint8_t *data, size_t data_len, uint32_t station, uint32_t epoch, uint32_t synchronous,
+                        uint32_t smoothing, uint32_t interval, const uint8_t *satellites, size_t satellites_len,
+                        const uint8_t *codes, size_t codes_len, const uint32_t *pseudoranges, size_t pseudoranges_len,
+                        const int32_t *phases, size_t phases_len, const uint8_t *locks, size_t locks_len,
+                        uint64_t *extra, size_t extra_len);
+uint32_t ref_1001_pseudorange(uint32_t raw, uint64_t *extra, size_t extra_len);
+uint32_t ref_1001_phase(int32_t raw, uint64_t *extra, size_t extra_len);
+uint32_t ref_1001_lock(uint32_t raw, uint64_t *extra, size_t extra_len);
+
 uint32_t ref_signal_of(uint32_t system, uint32_t number, uint64_t *extra, size_t extra_len);
 uint32_t ref_number_of(uint32_t system, uint32_t band, uint32_t letter, uint64_t *extra, size_t extra_len);
 uint32_t ref_signal_order(uint32_t system, uint32_t band_a, uint32_t letter_a, uint32_t band_b, uint32_t letter_b,

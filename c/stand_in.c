@@ -64,6 +64,40 @@ uint32_t pv_differing(const uint8_t *sent, size_t sent_len, const uint8_t *recei
     return ref_differing(sent, sent_len, received, received_len, extra, extra_len);
 }
 
+uint32_t pv_1001_read(const uint8_t *data, size_t data_len, uint8_t *satellites, size_t satellites_len, uint8_t *codes,
+                      size_t codes_len, uint32_t *pseudoranges, size_t pseudoranges_len, int32_t *phases,
+                      size_t phases_len, uint8_t *locks, size_t locks_len, uint64_t *extra, size_t extra_len)
+{
+    return ref_1001_read(data, data_len, satellites, satellites_len, codes, codes_len, pseudoranges, pseudoranges_len,
+                         phases, phases_len, locks, locks_len, extra, extra_len);
+}
+
+uint32_t pv_1001_write(uint8_t *data, size_t data_len, uint32_t station, uint32_t epoch, uint32_t synchronous,
+                       uint32_t smoothing, uint32_t interval, const uint8_t *satellites, size_t satellites_len,
+                       const uint8_t *codes, size_t codes_len, const uint32_t *pseudoranges, size_t pseudoranges_len,
+                       const int32_t *phases, size_t phases_len, const uint8_t *locks, size_t locks_len,
+                       uint64_t *extra, size_t extra_len)
+{
+    return ref_1001_write(data, data_len, station, epoch, synchronous, smoothing, interval, satellites, satellites_len,
+                          codes, codes_len, pseudoranges, pseudoranges_len, phases, phases_len, locks, locks_len, extra,
+                          extra_len);
+}
+
+uint32_t pv_1001_pseudorange(uint32_t raw, uint64_t *extra, size_t extra_len)
+{
+    return ref_1001_pseudorange(raw, extra, extra_len);
+}
+
+uint32_t pv_1001_phase(int32_t raw, uint64_t *extra, size_t extra_len)
+{
+    return ref_1001_phase(raw, extra, extra_len);
+}
+
+uint32_t pv_1001_lock(uint32_t raw, uint64_t *extra, size_t extra_len)
+{
+    return ref_1001_lock(raw, extra, extra_len);
+}
+
 uint32_t pv_settings_read(const uint8_t *block, size_t block_len, uint32_t reader_edition, uint32_t index,
                           uint16_t *numbers, size_t numbers_len, uint8_t *priorities, size_t priorities_len,
                           uint64_t *extra, size_t extra_len)

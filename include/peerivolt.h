@@ -94,6 +94,7 @@ static inline const char *pv_refusal_name(uint32_t number)
 #define PV_1059_READ_MAX 422 /* Records that always suffice for reading a 1059 block. */
 #define PV_1059_WRITE_MAX 1953 /* Records in the longest list that a 1059 block is written from. */
 #define PV_1230_MAX 4        /* Records in the longest 1230 block, in reading and in writing. */
+#define PV_1001_MAX 31       /* Observations in the longest message 1001, in reading and in writing. */
 #define PV_SETTINGS_SIZE 512 /* Bytes in a settings block, exactly. */
 #define PV_SETTINGS_MAX 64   /* Numbers in a settings block at most, and places in the lists that it is read into, exactly. */
 
@@ -125,6 +126,18 @@ static inline const char *pv_refusal_name(uint32_t number)
 #define PV_AT_READ_RECORDS 0 /* Block read: how many records. */
 #define PV_AT_READ_END 1     /* Block read: the bit behind the block. */
 #define PV_AT_WRITTEN_END 0  /* Block written: the bit behind the block. */
+
+#define PV_AT_1001_STATION 2     /* Message 1001 read: the reference station, */
+#define PV_AT_1001_EPOCH 3       /* the GPS epoch time in ms, */
+#define PV_AT_1001_SYNCHRONOUS 4 /* the synchronous GNSS flag, */
+#define PV_AT_1001_SMOOTHING 5   /* the divergence-free smoothing flag, */
+#define PV_AT_1001_INTERVAL 6    /* the smoothing interval. */
+
+#define PV_AT_MEASURED_KIND 0  /* Raw number of message 1001: what it measures, */
+#define PV_AT_MEASURED_VALUE 1 /* the count, or the 64 bits of the double. */
+#define PV_MEASURED_ABSENT 0
+#define PV_MEASURED_COUNT 1
+#define PV_MEASURED_METRES 2
 
 #define PV_AT_SIGNAL_FOUND 0  /* Number to signal: 1 if the table has the number, else 0. */
 #define PV_AT_SIGNAL_BAND 1   /* Number to signal: the band, as in 1 of 1C. */
@@ -342,6 +355,50 @@ uint32_t pv_1230_write(uint8_t *data, size_t data_len, size_t start, const uint8
 
 /* A raw 1230 bias in metres: the number as a float times 0.02f, rounded once. Its unit is not that of 1059. */
 float pv_1230_metres(int16_t raw);
+
+/* ---- Message 1001 (GPS L1 observations). ---- */
+
+/*
+ * Reads a whole message from bit 0 of the data on: the number 1001 (12 bits), station (12), epoch in ms (30), synchronous
+ * flag (1), how many observations (5), smoothing flag (1), smoothing interval (3); for each observation the satellite (6),
+ * code indicator (1), pseudorange (24), phase range less pseudorange (20, two's complement), lock time indicator (7).
+ * Observation i is number i of the five lists, as raw numbers; later places stay as they are. Lists of PV_1001_MAX (31)
+ * always suffice.
+ *
+ * Refuses, in this order: PV_SIZE (data above 1,023 bytes, or lists of unequal length); PV_SHORT of the number, PV_KIND
+ * (another number), PV_SHORT of a later field (carries the bit where it starts, and how many of its bits are missing);
+ * PV_ROOM (more observations than places; carries how many there are).
+ * Answers: [PV_AT_READ_RECORDS] the number of observations; [PV_AT_READ_END] the bit behind the message;
+ * [PV_AT_1001_STATION] and on: the header.
+ */
+uint32_t pv_1001_read(const uint8_t *data, size_t data_len, uint8_t *satellites, size_t satellites_len, uint8_t *codes,
+                      size_t codes_len, uint32_t *pseudoranges, size_t pseudoranges_len, int32_t *phases,
+                      size_t phases_len, uint8_t *locks, size_t locks_len, uint64_t *extra, size_t extra_len);
+
+/*
+ * Writes a whole message from bit 0 of the data on. Bits behind it stay as they are. The count is that of the lists.
+ *
+ * Refuses, in this order: PV_SIZE (data above 1,023 bytes, or lists of unequal length); PV_RANGE (a number of the header
+ * that does not fit its field; carries 0); then the first faulty observation and, for it, PV_SATELLITE (above 63),
+ * PV_RANGE (another number that does not fit its field), each carrying its index; PV_TOO_MANY (over 31 observations;
+ * carries 32); PV_ROOM (carries the bits of the whole message).
+ * Answers: [PV_AT_WRITTEN_END] the bit behind the message.
+ */
+uint32_t pv_1001_write(uint8_t *data, size_t data_len, uint32_t station, uint32_t epoch, uint32_t synchronous,
+                       uint32_t smoothing, uint32_t interval, const uint8_t *satellites, size_t satellites_len,
+                       const uint8_t *codes, size_t codes_len, const uint32_t *pseudoranges, size_t pseudoranges_len,
+                       const int32_t *phases, size_t phases_len, const uint8_t *locks, size_t locks_len,
+                       uint64_t *extra, size_t extra_len);
+
+/*
+ * What a raw number measures. [PV_AT_MEASURED_KIND] is PV_MEASURED_ABSENT, PV_MEASURED_COUNT or PV_MEASURED_METRES;
+ * [PV_AT_MEASURED_VALUE] is the count, or the 64 bits of a double: the raw number as a double times the unit, rounded
+ * once. A pseudorange is in 0.02 m, and FFFFFF hex is absent; a phase range is in 0.0005 m, and -80000 hex is absent; a
+ * lock time indicator is a count. These calls refuse nothing but the size of `extra`.
+ */
+uint32_t pv_1001_pseudorange(uint32_t raw, uint64_t *extra, size_t extra_len);
+uint32_t pv_1001_phase(int32_t raw, uint64_t *extra, size_t extra_len);
+uint32_t pv_1001_lock(uint32_t raw, uint64_t *extra, size_t extra_len);
 
 /* ---- Settings blocks. ---- */
 

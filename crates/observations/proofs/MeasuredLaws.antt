@@ -5,7 +5,8 @@ use Prim.Native.Nat.{ℕ, zero, suc, _+_, _*_, _^_}
 use lib.Dec.{ltb, eqb}
 use lib.IntN.{ℤ, pos, negsuc}
 use borrow.Author.Tests.{eqb-true}
-use Rattle.observations.specs.Measured.{lengthOf, isPhaseMarker}
+use Rattle.observations.specs.Measured.{lengthOf, pseudorangeOf, isPhaseMarker, phaseOf, IsNumber}
+use Rattle.observations.specs.declared.measured.Measured.the-variants.{Absent, Metres}
 use lib.Ieee.{Float, Format, nan, inf, fin, binary64, prec, emax, low, ofBits, ofFields, round, units, odd, size, mul, ofInt, isNan}
 
 pub hundredths : ofBits binary64 4581421828931458171 ≡ round binary64 false 2 100
@@ -70,8 +71,20 @@ phase-unit : round binary64 false 5 10000 ≡ fin false 1152921504606847 (negsuc
 unfolding round odd units size
 phase-unit = refl
 
-pub pseudorange-number : (z : ℤ) → isNan (lengthOf 2 100 z) ≡ false
+pseudorange-number : (z : ℤ) → isNan (lengthOf 2 100 z) ≡ false
 pseudorange-number z = rw pseudorange-unit (times-number binary64 (ofInt binary64 z) false 5764607523034235 (negsuc 57) (int-number binary64 z) refl)
 
-pub phase-number : (z : ℤ) → isNan (lengthOf 5 10000 z) ≡ false
+phase-number : (z : ℤ) → isNan (lengthOf 5 10000 z) ≡ false
 phase-number z = rw phase-unit (times-number binary64 (ofInt binary64 z) false 1152921504606847 (negsuc 60) (int-number binary64 z) refl)
+
+either : (b : Bool) (x : Float) → isNan x ≡ false → IsNumber (cond b Absent (Metres x))
+either true x e = tt
+either false x e = rw e tt
+
+pub pseudorange-is : (raw : ℕ) → IsNumber (pseudorangeOf raw)
+unfolding pseudorangeOf
+pseudorange-is raw = either (eqb raw 0xFFFFFF) (lengthOf 2 100 (pos raw)) (pseudorange-number (pos raw))
+
+pub phase-is : (raw : ℤ) → IsNumber (phaseOf raw)
+unfolding phaseOf
+phase-is raw = either (isPhaseMarker raw) (lengthOf 5 10000 raw) (phase-number raw)

@@ -1,9 +1,9 @@
 -- What a raw number of an observation measures. Assumes nothing.
-use mathlib.Core.Bool.{Bool, false, cond}
+use mathlib.Core.Bool.{Bool, false, cond, not}
 use Prim.Native.Nat.{ℕ}
 use lib.IntN.{ℤ, pos, negsuc}
-use lib.Dec.{eqb}
-use lib.Ieee.{Float, binary64, round, ofInt, mul}
+use lib.Dec.{T, eqb}
+use lib.Ieee.{Float, binary64, round, ofInt, mul, isNan}
 use Rattle.observations.specs.declared.measured.Measured.{Measured}
 use Rattle.observations.specs.declared.measured.Measured.the-variants.{Absent, Count, Metres}
 
@@ -27,3 +27,9 @@ phaseOf raw = cond (isPhaseMarker raw) Absent (Metres (lengthOf 5 10000 raw))
 -- DF013: a plain count
 abbrev pub lockOf : ℕ → Measured
 lockOf raw = Count raw
+
+-- a length, where there is one, is a number
+abbrev pub IsNumber : Measured → Type 0
+IsNumber Absent = Unit
+IsNumber (Count n) = Unit
+IsNumber (Metres x) = T (not (isNan x))

@@ -22,6 +22,12 @@ use Rattle.settings.specs.Read.{readSettings}
 use Rattle.settings.specs.Write.{writeSettings}
 use Rattle.peerivolt.specs.Damage.{runValues}
 use Rattle.peerivolt.specs.Settings.{readsSettings}
+use Rattle.observations.specs.declared.answer.Header.{Header}
+use Rattle.observations.specs.Lists.{Lists}
+use Rattle.observations.specs.Read1001.{read1001}
+use Rattle.observations.specs.Write1001.{write1001}
+use Rattle.observations.specs.Measured.{pseudorangeOf, phaseOf, lockOf}
+use Rattle.peerivolt.specs.Message1001.{seenValues, measuredValues}
 use Rattle.peerivolt.specs.Extra.{Returned, returned, answered, reads}
 use Rattle.peerivolt.specs.Fields.{readingValues, signedValues, endValues}
 use Rattle.peerivolt.specs.Frames.{wholeValues}
@@ -119,3 +125,18 @@ pub only-pv-signal-order : (system band1 letter1 band2 letter2 : ℕ) (e : List 
     → OneAnswer (reads orderValues (Accepted (order (tableOf system) (sig band1 letter1) (sig band2 letter2))) e)
 only-pv-signal-order system band1 letter1 band2 letter2 e =
     only-returned (reads orderValues (Accepted (order (tableOf system) (sig band1 letter1) (sig band2 letter2))) e)
+
+pub only-pv-1001-read : (s : List ℕ) (l : Lists) (e : List ℕ) → OneAnswer (answered seenValues e l (read1001 s l))
+only-pv-1001-read s l e = only-returned (answered seenValues e l (read1001 s l))
+
+pub only-pv-1001-write : (s : List ℕ) (h : Header) (l : Lists) (e : List ℕ) → OneAnswer (answered endValues e s (write1001 s h l))
+only-pv-1001-write s h l e = only-returned (answered endValues e s (write1001 s h l))
+
+pub only-pv-1001-pseudorange : (raw : ℕ) (e : List ℕ) → OneAnswer (reads measuredValues (Accepted (pseudorangeOf raw)) e)
+only-pv-1001-pseudorange raw e = only-returned (reads measuredValues (Accepted (pseudorangeOf raw)) e)
+
+pub only-pv-1001-phase : (raw : ℤ) (e : List ℕ) → OneAnswer (reads measuredValues (Accepted (phaseOf raw)) e)
+only-pv-1001-phase raw e = only-returned (reads measuredValues (Accepted (phaseOf raw)) e)
+
+pub only-pv-1001-lock : (raw : ℕ) (e : List ℕ) → OneAnswer (reads measuredValues (Accepted (lockOf raw)) e)
+only-pv-1001-lock raw e = only-returned (reads measuredValues (Accepted (lockOf raw)) e)

@@ -8,3 +8,4 @@ pub mod Scanner
 pub mod Feeding
 pub mod Signals
 pub mod Biases
+pub mod Message1001

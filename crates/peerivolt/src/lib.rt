@@ -5,6 +5,7 @@ pub mod blocks;
 pub mod comparing;
 mod extra;
 pub mod fields;
+pub mod message_1001;
 pub mod one_frame;
 pub mod scanner;
 pub mod signals;
