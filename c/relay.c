@@ -555,11 +555,27 @@ static enum outcome open_ends(struct relay *relay)
     return outcome;
 }
 
+/* Counts the frames of which every byte was written. */
+static void count_passed(const uint8_t *frames, size_t written)
+{
+    while (written >= PV_FRAME_MIN) {
+        size_t frame_len = ((size_t)(frames[1] & 3) << 8 | frames[2]) + PV_FRAME_MIN;
+        if (frame_len > written)
+            return;
+        counts.passed++;
+        frames += frame_len;
+        written -= frame_len;
+    }
+}
+
 static enum outcome flush(struct relay *relay)
 {
     size_t n = relay->waiting;
+    uint64_t before = counts.passed_bytes;
     relay->waiting = 0;
-    return write_all(relay->out, relay->frames, n);
+    enum outcome outcome = write_all(relay->out, relay->frames, n);
+    count_passed(relay->frames, (size_t)(counts.passed_bytes - before));
+    return outcome;
 }
 
 /* Counts a frame and says whether it is to be passed on. */
@@ -593,10 +609,8 @@ static enum outcome relay_piece(struct relay *relay, const uint8_t *piece, size_
         piece += fed.taken;
         n -= fed.taken;
         counts.skipped += fed.skipped;
-        if (fed.is_frame && count_frame(relay->options, frame, fed.frame_len)) {
-            counts.passed++;
+        if (fed.is_frame && count_frame(relay->options, frame, fed.frame_len))
             relay->waiting += fed.frame_len;
-        }
     } while (fed.is_frame);
     return flush(relay);
 }

@@ -192,6 +192,16 @@ stopped() {
     rm -f "$work/fifo"
 }
 
+# An output that takes nothing: no frame is counted as passed.
+full_output() {
+    if [ ! -c /dev/full ]; then
+        return
+    fi
+    relay <"$1" >/dev/full 2>"$work/full"
+    check "a full output: status" $? 1
+    check "a full output: counts" "$(grep -c '^relay: passed 0 of 0 bytes$' "$work/full")" 1
+}
+
 # The reader goes away: an error and counts, not the end by a signal.
 closed_peer() {
     forget
@@ -323,6 +333,7 @@ interrupted "$recording"
 stopped "$recording" INT
 stopped "$recording" TERM
 closed_peer "$recording"
+full_output "$recording"
 stalled_reader "$recording"
 
 echo "relay: $passed checks, $failed failed"

@@ -85,8 +85,17 @@ pub fn lists_read(block: Block, raw: &[Raw], places: usize) -> Lists {
     lists
 }
 
+/// The list without the records that repeat the satellite and the signal of an earlier one.
+pub fn without_repeats(raw: Vec<Raw>) -> Vec<Raw> {
+    let mut seen = BTreeSet::new();
+    let mut raw = raw;
+    raw.retain(|(satellite, signal, _)| seen.insert((*satellite, *signal)));
+    raw
+}
+
 /// Whether our 1059 writer accepts the list, given room, and the crate's vector holds it.
 pub fn is_accepted_1059(raw: &[Raw]) -> bool {
+    let pairs: BTreeSet<(u8, u8)> = raw.iter().map(|record| (record.0, record.1)).collect();
     let mut counts = [0; 256];
     raw.iter().for_each(|record| counts[record.0 as usize] += 1);
     let is_good = |(satellite, signal, bias): &Raw| {
@@ -95,6 +104,7 @@ pub fn is_accepted_1059(raw: &[Raw]) -> bool {
             && biases(Block::Msg1059).contains(bias)
     };
     raw.len() <= CAPACITY_1059
+        && pairs.len() == raw.len()
         && raw.iter().all(is_good)
         && counts.iter().all(|count| *count <= 31)
         && counts.iter().filter(|count| **count > 0).count() < 64
@@ -172,7 +182,7 @@ pub fn is_plain_1059(data: &[u8], start: usize) -> bool {
     true
 }
 
-/// A random list that the 1059 writers accept.
+/// A random list that the crate's 1059 writer accepts; ours refuses one with a satellite and signal twice.
 pub fn any_list_1059(random: &mut Random) -> Vec<Raw> {
     let different = match random.below(4) {
         0 => random.within(0, 63),

@@ -9,6 +9,8 @@ pub const HELD: usize = 1_029;
 pub const DATA: usize = 1_023;
 /// Bytes in the longest piece.
 pub const PIECE: usize = 65_536;
+/// The edition of the 1059 signals that the Rust has.
+const EDITION: u32 = 1;
 /// Records that suffice for every 1059 block, and for every 1230 block.
 pub const RECORDS_1059: usize = 422;
 pub const RECORDS_1230: usize = 4;
@@ -112,7 +114,7 @@ mod raw {
     }
 
     macro_rules! blocks {
-        ($($read:ident, $write:ident, $($list:ty)+;)+) => {
+        ($($read:ident, $write:ident ($($first:ty)?), $($list:ty)+;)+) => {
             extern "C" {
                 $(
                     pub fn $read(
@@ -124,6 +126,7 @@ mod raw {
                         extra_len: usize,
                     ) -> u32;
                     pub fn $write(
+                        $(_: $first,)?
                         data: *mut u8,
                         data_len: usize,
                         start: usize,
@@ -136,10 +139,10 @@ mod raw {
         };
     }
 
-    // Satellites in 1059 only, then signals and biases.
+    // Satellites in 1059 only, then signals and biases. Writing 1059 takes the edition first.
     blocks! {
-        pv_1059_read, pv_1059_write, u8 u8 i16;
-        pv_1230_read, pv_1230_write, u8 i16;
+        pv_1059_read, pv_1059_write (u32), u8 u8 i16;
+        pv_1230_read, pv_1230_write (), u8 i16;
     }
 }
 
@@ -269,9 +272,9 @@ impl Lists {
 
 /// Calls a function over data, a start and some of the lists, each area lent by the named method.
 macro_rules! told_of_block {
-    ($function:ident($data:ident.$lent:ident, $start:ident, $lists:ident.$lists_lent:ident: $($list:ident)+)) => {
+    ($function:ident($([$edition:expr])? $data:ident.$lent:ident, $start:ident, $lists:ident.$lists_lent:ident: $($list:ident)+)) => {
         told!($function(
-            $data.$lent(), $data.len(), $start, $($lists.$list.$lists_lent(), $lists.$list.len()),+
+            $($edition,)? $data.$lent(), $data.len(), $start, $($lists.$list.$lists_lent(), $lists.$list.len()),+
         ))
     };
 }
@@ -290,7 +293,7 @@ pub fn read_block(block: Block, data: &[u8], start: usize, lists: &mut Lists) ->
 pub fn write_block(block: Block, data: &mut [u8], start: usize, lists: &Lists) -> Told {
     match block {
         Block::Msg1059 => {
-            told_of_block!(pv_1059_write(data.as_mut_ptr, start, lists.as_ptr: satellites signals biases))
+            told_of_block!(pv_1059_write([EDITION] data.as_mut_ptr, start, lists.as_ptr: satellites signals biases))
         }
         Block::Msg1230 => {
             told_of_block!(pv_1230_write(data.as_mut_ptr, start, lists.as_ptr: signals biases))

@@ -235,7 +235,7 @@ impl Areas {
     fn lists_1059(&mut self, random: &mut Random) {
         let mut round = 0;
         while round < 30_000 {
-            let list = blocks::any_list_1059(random);
+            let list = blocks::without_repeats(blocks::any_list_1059(random));
             let bits = blocks::bits(self.block, &list);
             let start = any_start(random, bits);
             let spare = random.below(20);
@@ -301,7 +301,7 @@ impl Areas {
     /// Two lists that fit into so many bits; none where no block does.
     fn lists_within(&self, random: &mut Random, room: usize) -> Vec<Vec<Raw>> {
         let one = |random: &mut Random| match self.block {
-            Block::Msg1059 => blocks::any_list_1059(random),
+            Block::Msg1059 => blocks::without_repeats(blocks::any_list_1059(random)),
             Block::Msg1230 => {
                 let mask = random.below(16);
                 blocks::any_list_1230(random, mask)
