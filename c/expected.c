@@ -18,7 +18,7 @@ int main(int argc, char **argv)
     size_t place = 0, frames = 0, skipped = 0;
     for (;;) {
         size_t length = 1;
-        enum ref_fate fate = ref_scan(stream, n, place, &length);
+        enum ref_fate fate = ref_scan(0, stream, n, place, &length);
         if (fate == REF_HELD)
             break;
         if (fate == REF_SKIPPED)

@@ -70,10 +70,11 @@ size_t plain_find_preamble(const uint8_t *bytes, size_t bytes_len)
     return i;
 }
 
-uint32_t plain_empty_call(uint8_t *held, size_t held_len, size_t held_count, const uint8_t *piece, size_t piece_len,
-                          uint8_t *out, size_t out_len, uint64_t *extra, size_t extra_len)
+uint32_t plain_empty_call(uint8_t *held, size_t held_len, size_t held_count, uint64_t taken, uint32_t mode,
+                          const uint8_t *piece, size_t piece_len, uint8_t *out, size_t out_len, uint64_t *extra,
+                          size_t extra_len)
 {
-    (void)held, (void)held_len, (void)held_count, (void)piece, (void)piece_len;
+    (void)held, (void)held_len, (void)held_count, (void)taken, (void)mode, (void)piece, (void)piece_len;
     (void)out, (void)out_len, (void)extra, (void)extra_len;
     return PV_ACCEPTED;
 }
@@ -302,14 +303,16 @@ static size_t find_frame(struct call *call)
     }
 }
 
-uint32_t PLAIN(feed)(uint8_t *held, size_t held_len, size_t held_count, const uint8_t *piece, size_t piece_len,
-                     uint8_t *out, size_t out_len, uint64_t *extra, size_t extra_len)
+/* RTCM alone: a program that is measured against the scanner for RTCM only. */
+uint32_t PLAIN(feed)(uint8_t *held, size_t held_len, size_t held_count, uint64_t taken, uint32_t mode,
+                     const uint8_t *piece, size_t piece_len, uint8_t *out, size_t out_len, uint64_t *extra,
+                     size_t extra_len)
 {
     if (extra_len != PV_EXTRA_SIZE || held_len != PV_HELD_SIZE)
         return PV_SIZE;
-    if (held_count > PV_HELD_SIZE)
+    if (held_count > PV_HELD_SIZE || held_count > taken || taken > PV_TAKEN_MAX || mode != PV_RTCM_ONLY)
         return answer(extra, PV_STATE, 0, 0);
-    if (piece_len > PV_PIECE_MAX)
+    if (piece_len > PV_PIECE_MAX || taken + piece_len > PV_TAKEN_MAX)
         return answer(extra, PV_SIZE, 0, 0);
     if (out_len < PV_FRAME_MAX)
         return answer(extra, PV_ROOM, PV_FRAME_MAX, 0);
@@ -318,7 +321,10 @@ uint32_t PLAIN(feed)(uint8_t *held, size_t held_len, size_t held_count, const ui
     size_t rest = call.front + frame_len;
     copy_from(&call, call.front, frame_len, out);
     copy_from(&call, rest, call.seen - rest, held);
-    return fed(&call, extra, call.front, call.seen - rest, frame_len);
+    fed(&call, extra, call.front, call.seen - rest, frame_len);
+    extra[PV_AT_FED_PLACE] = frame_len > 0 ? taken - held_count + call.front : 0;
+    extra[PV_AT_FED_ALL_TAKEN] = taken + extra[PV_AT_FED_TAKEN];
+    return PV_ACCEPTED;
 }
 
 /* ---- The 1059 block. ---- */

@@ -18,8 +18,9 @@
     uint32_t prefix##_frame_check(const uint8_t *bytes, size_t bytes_len, uint64_t *extra, size_t extra_len);          \
     uint32_t prefix##_frame_write(const uint8_t *data, size_t data_len, uint8_t *out, size_t out_len,                  \
                                   uint64_t *extra, size_t extra_len);                                                  \
-    uint32_t prefix##_feed(uint8_t *held, size_t held_len, size_t held_count, const uint8_t *piece,                    \
-                           size_t piece_len, uint8_t *out, size_t out_len, uint64_t *extra, size_t extra_len);         \
+    uint32_t prefix##_feed(uint8_t *held, size_t held_len, size_t held_count, uint64_t taken, uint32_t mode,           \
+                           const uint8_t *piece, size_t piece_len, uint8_t *out, size_t out_len, uint64_t *extra,      \
+                           size_t extra_len);                                                                          \
     uint32_t prefix##_1059_read(const uint8_t *data, size_t data_len, size_t start, uint8_t *satellites,               \
                                 size_t satellites_len, uint8_t *signals, size_t signals_len, int16_t *biases,          \
                                 size_t biases_len, uint64_t *extra, size_t extra_len);                                 \
@@ -40,7 +41,8 @@ PLAIN_DECLARE(table)
 size_t plain_find_preamble(const uint8_t *bytes, size_t bytes_len);
 
 /* A call with the parameters of feeding that does nothing. */
-uint32_t plain_empty_call(uint8_t *held, size_t held_len, size_t held_count, const uint8_t *piece, size_t piece_len,
-                          uint8_t *out, size_t out_len, uint64_t *extra, size_t extra_len);
+uint32_t plain_empty_call(uint8_t *held, size_t held_len, size_t held_count, uint64_t taken, uint32_t mode,
+                          const uint8_t *piece, size_t piece_len, uint8_t *out, size_t out_len, uint64_t *extra,
+                          size_t extra_len);
 
 #endif

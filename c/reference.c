@@ -400,19 +400,50 @@ uint32_t ref_settings_write(uint32_t edition, uint32_t index, const uint16_t *nu
 
 /* ---- Scanning. ---- */
 
-enum ref_fate ref_scan(const uint8_t *stream, size_t stream_len, size_t place, size_t *frame_len)
+/* The UBX frame that the bytes begin with: 0, PV_BAD_CHECK or PV_INCOMPLETE, by the public description. */
+static uint32_t judge_ubx(const uint8_t *bytes, size_t bytes_len)
+{
+    if (bytes_len < 2)
+        return PV_INCOMPLETE;
+    if (bytes[1] != 0x62)
+        return PV_BAD_CHECK;
+    if (bytes_len < 6)
+        return PV_INCOMPLETE;
+    size_t payload = bytes[4] + 256 * (size_t)bytes[5];
+    if (payload > PV_UBX_PAYLOAD_MAX)
+        return PV_BAD_CHECK;
+    if (bytes_len < payload + 8)
+        return PV_INCOMPLETE;
+    unsigned a = 0, b = 0;
+    for (size_t i = 0; i < payload + 4; i++) {
+        a = (a + bytes[2 + i]) % 256;
+        b = (b + a) % 256;
+    }
+    return a == bytes[payload + 6] && b == bytes[payload + 7] ? PV_ACCEPTED : PV_BAD_CHECK;
+}
+
+/* What the first byte starts in a mode: a frame (then its length), another refusal, or PV_INCOMPLETE. */
+static uint32_t judge_front(uint32_t mode, const uint8_t *bytes, size_t bytes_len, size_t *frame_len)
+{
+    uint32_t refusal = PV_NO_PREAMBLE;
+    if (bytes[0] == 0xD3) {
+        refusal = judge_frame(bytes, bytes_len);
+        if (refusal == PV_ACCEPTED)
+            *frame_len = declared_length(bytes) + PV_FRAME_MIN;
+    } else if (bytes[0] == 0xB5 && mode == PV_RTCM_AND_UBX) {
+        refusal = judge_ubx(bytes, bytes_len);
+        if (refusal == PV_ACCEPTED)
+            *frame_len = bytes[4] + 256 * (size_t)bytes[5] + 8;
+    }
+    return refusal;
+}
+
+enum ref_fate ref_scan(uint32_t mode, const uint8_t *stream, size_t stream_len, size_t place, size_t *frame_len)
 {
     if (place >= stream_len)
         return REF_HELD;
-    if (stream[place] != 0xD3)
-        return REF_SKIPPED;
-    uint32_t refusal = judge_frame(stream + place, stream_len - place);
-    if (refusal == PV_INCOMPLETE)
-        return REF_HELD;
-    if (refusal == PV_BAD_CHECK)
-        return REF_SKIPPED;
-    *frame_len = declared_length(stream + place) + PV_FRAME_MIN;
-    return REF_FRAME;
+    uint32_t refusal = judge_front(mode, stream + place, stream_len - place, frame_len);
+    return refusal == PV_ACCEPTED ? REF_FRAME : refusal == PV_INCOMPLETE ? REF_HELD : REF_SKIPPED;
 }
 
 /* The held bytes while a call runs. */
@@ -427,66 +458,66 @@ static void remove_front(struct holding *holding, size_t n)
     memmove(holding->bytes, holding->bytes + n, holding->count);
 }
 
-static int wants_a_byte(const struct holding *holding)
-{
-    if (holding->count == 0)
-        return 1;
-    return holding->bytes[0] == 0xD3 && judge_frame(holding->bytes, holding->count) == PV_INCOMPLETE;
-}
+/* What one call does. */
+struct ref_call {
+    size_t taken, skipped, frame_len;
+};
 
-static uint32_t fed(uint64_t *extra, size_t taken, size_t skipped, size_t held_count, size_t frame_len)
-{
-    clear(extra);
-    extra[PV_AT_FED_IS_FRAME] = frame_len > 0 ? PV_FRAME : PV_MORE;
-    extra[PV_AT_FED_TAKEN] = taken;
-    extra[PV_AT_FED_SKIPPED] = skipped;
-    extra[PV_AT_FED_HELD_COUNT] = held_count;
-    extra[PV_AT_FED_FRAME_LENGTH] = frame_len;
-    return PV_ACCEPTED;
-}
-
-/* The call itself, worded as the rules word it. Gives the frame's length, or 0 for More. */
-static size_t feed_bytes(struct holding *holding, const uint8_t *piece, size_t piece_len, uint8_t *out,
-                         size_t *taken, size_t *skipped)
+/* The call itself, worded as the rules word it. Leaves a frame length of 0 for More. */
+static void feed_bytes(uint32_t mode, struct holding *holding, const uint8_t *piece, size_t piece_len, uint8_t *out,
+                       struct ref_call *call)
 {
     for (;;) {
-        while (wants_a_byte(holding)) {
-            if (*taken == piece_len)
-                return 0;
-            holding->bytes[holding->count++] = piece[(*taken)++];
+        uint32_t refusal = PV_INCOMPLETE;
+        if (holding->count > 0)
+            refusal = judge_front(mode, holding->bytes, holding->count, &call->frame_len);
+        if (refusal == PV_ACCEPTED)
+            break;
+        if (refusal == PV_INCOMPLETE) {
+            if (call->taken == piece_len)
+                return;
+            holding->bytes[holding->count++] = piece[call->taken++];
+        } else {
+            remove_front(holding, 1);
+            call->skipped += 1;
         }
-        if (holding->bytes[0] == 0xD3 && judge_frame(holding->bytes, holding->count) == PV_ACCEPTED) {
-            size_t frame_len = declared_length(holding->bytes) + PV_FRAME_MIN;
-            memcpy(out, holding->bytes, frame_len);
-            remove_front(holding, frame_len);
-            return frame_len;
-        }
-        remove_front(holding, 1);
-        *skipped += 1;
     }
+    memcpy(out, holding->bytes, call->frame_len);
+    remove_front(holding, call->frame_len);
 }
 
-uint32_t ref_feed(uint8_t *held, size_t held_len, size_t held_count, const uint8_t *piece, size_t piece_len,
-                  uint8_t *out, size_t out_len, uint64_t *extra, size_t extra_len)
+uint32_t ref_feed(uint8_t *held, size_t held_len, size_t held_count, uint64_t taken, uint32_t mode,
+                  const uint8_t *piece, size_t piece_len, uint8_t *out, size_t out_len,
+                  uint64_t *extra, size_t extra_len)
 {
     if (extra_len != PV_EXTRA_SIZE)
         return PV_SIZE;
     if (held_len != PV_HELD_SIZE)
         return PV_SIZE;
-    if (held_count > PV_HELD_SIZE)
+    if (held_count > PV_HELD_SIZE || held_count > taken || taken > PV_TAKEN_MAX || mode > PV_RTCM_AND_UBX)
         return refuse(extra, PV_STATE, 0);
-    if (piece_len > PV_PIECE_MAX)
+    if (piece_len > PV_PIECE_MAX || taken + piece_len > PV_TAKEN_MAX)
         return refuse(extra, PV_SIZE, 0);
     if (out_len < PV_FRAME_MAX)
         return refuse(extra, PV_ROOM, PV_FRAME_MAX);
     struct holding holding;
+    struct ref_call call = { 0, 0, 0 };
     memcpy(holding.bytes, held, held_count);
     holding.count = held_count;
-    size_t taken = 0;
-    size_t skipped = 0;
-    size_t frame_len = feed_bytes(&holding, piece, piece_len, out, &taken, &skipped);
+    feed_bytes(mode, &holding, piece, piece_len, out, &call);
     memcpy(held, holding.bytes, holding.count);
-    return fed(extra, taken, skipped, holding.count, frame_len);
+    clear(extra);
+    extra[PV_AT_FED_TAKEN] = call.taken;
+    extra[PV_AT_FED_SKIPPED] = call.skipped;
+    extra[PV_AT_FED_HELD_COUNT] = holding.count;
+    extra[PV_AT_FED_ALL_TAKEN] = taken + call.taken;
+    if (call.frame_len == 0)
+        return PV_ACCEPTED;
+    extra[PV_AT_FED_IS_FRAME] = PV_FRAME;
+    extra[PV_AT_FED_FRAME_LENGTH] = call.frame_len;
+    extra[PV_AT_FED_PLACE] = taken - held_count + call.skipped;
+    extra[PV_AT_FED_KIND] = out[0] == 0xB5 ? PV_UBX : PV_RTCM;
+    return PV_ACCEPTED;
 }
 
 /* ---- Reading of blocks, field after field. ---- */

@@ -37,8 +37,9 @@ uint32_t ref_settings_write(uint32_t edition, uint32_t index, const uint16_t *nu
                             const uint8_t *priorities, size_t priorities_len, uint8_t *out, size_t out_len,
                             uint64_t *extra, size_t extra_len);
 
-uint32_t ref_feed(uint8_t *held, size_t held_len, size_t held_count, const uint8_t *piece, size_t piece_len,
-                  uint8_t *out, size_t out_len, uint64_t *extra, size_t extra_len);
+uint32_t ref_feed(uint8_t *held, size_t held_len, size_t held_count, uint64_t taken, uint32_t mode,
+                  const uint8_t *piece, size_t piece_len, uint8_t *out, size_t out_len,
+                  uint64_t *extra, size_t extra_len);
 
 uint32_t ref_1059_read(const uint8_t *data, size_t data_len, size_t start, uint8_t *satellites, size_t satellites_len,
                        uint8_t *signals, size_t signals_len, int16_t *biases, size_t biases_len,
@@ -80,6 +81,6 @@ enum ref_fate { REF_SKIPPED, REF_FRAME, REF_HELD };
  * The scan of a whole stream of any length. From `place` on: a byte to skip, a frame of *frame_len bytes, or the start of
  * the bytes that are held.
  */
-enum ref_fate ref_scan(const uint8_t *stream, size_t stream_len, size_t place, size_t *frame_len);
+enum ref_fate ref_scan(uint32_t mode, const uint8_t *stream, size_t stream_len, size_t place, size_t *frame_len);
 
 #endif

@@ -35,6 +35,8 @@ static const char usage[] =
     "  -m, --message N[,N..]         pass only messages with these numbers (0 to 4095); may be repeated\n"
     "  -s, --settings FILE           pass only messages whose numbers FILE holds, a settings block\n"
     "  -S, --save-settings           write the numbers of --message to FILE first, and use those\n"
+    "  -u, --ubx pass|drop           take UBX frames for frames too, and pass them on or drop them; else they are skipped\n"
+    "  -p, --places                  print the stream place, kind and length of each frame to standard error\n"
     "  -q, --quiet                   print no counts at the end\n"
     "  -h, --help                    print this and exit\n"
     "\n"
@@ -55,6 +57,7 @@ struct options {
     bool passes[MESSAGE_NUMBERS];
     const char *settings;
     bool save_settings;
+    bool ubx, pass_ubx, places;
     bool quiet;
 };
 
@@ -119,10 +122,11 @@ static int read_options(int argc, char **argv, struct options *options)
         { "out-listen", required_argument, NULL, 'L' }, { "out-connect", required_argument, NULL, 'C' },
         { "message", required_argument, NULL, 'm' },    { "quiet", no_argument, NULL, 'q' },
         { "settings", required_argument, NULL, 's' },   { "save-settings", no_argument, NULL, 'S' },
+        { "ubx", required_argument, NULL, 'u' },        { "places", no_argument, NULL, 'p' },
         { "help", no_argument, NULL, 'h' },             { NULL, 0, NULL, 0 },
     };
     int option;
-    while ((option = getopt_long(argc, argv, "l:c:L:C:m:s:Sqh", names, NULL)) != -1) {
+    while ((option = getopt_long(argc, argv, "l:c:L:C:m:s:Su:pqh", names, NULL)) != -1) {
         switch (option) {
         case 'l': options->listen = optarg; break;
         case 'c': options->connect = optarg; break;
@@ -131,6 +135,13 @@ static int read_options(int argc, char **argv, struct options *options)
         case 'q': options->quiet = true; break;
         case 's': options->settings = optarg; break;
         case 'S': options->save_settings = true; break;
+        case 'p': options->places = true; break;
+        case 'u':
+            if (strcmp(optarg, "pass") != 0 && strcmp(optarg, "drop") != 0)
+                return wrong_usage("neither pass nor drop: ", optarg);
+            options->ubx = true;
+            options->pass_ubx = strcmp(optarg, "pass") == 0;
+            break;
         case 'h': return fputs(usage, stdout) < 0 ? -1 : 1;
         case 'm':
             if (add_messages(options, optarg) != 0)
@@ -234,7 +245,7 @@ static int save_settings(const struct options *options)
 
 struct counts {
     uint64_t read, frames, frame_bytes, passed, passed_bytes, skipped;
-    uint64_t without_number;
+    uint64_t without_number, ubx;
     uint64_t of_number[MESSAGE_NUMBERS];
 };
 
@@ -247,6 +258,8 @@ static void print_counts(void)
     fprintf(stderr, "relay: frames %" PRIu64 " of %" PRIu64 " bytes\n", counts.frames, counts.frame_bytes);
     fprintf(stderr, "relay: passed %" PRIu64 " of %" PRIu64 " bytes\n", counts.passed, counts.passed_bytes);
     fprintf(stderr, "relay: skipped %" PRIu64 " bytes\n", counts.skipped);
+    if (scanner.mode == PV_RTCM_AND_UBX)
+        fprintf(stderr, "relay: UBX %" PRIu64 "\n", counts.ubx);
     fprintf(stderr, "relay: held %zu bytes\n", scanner.held_count);
     for (size_t number = 0; number < MESSAGE_NUMBERS; number++)
         if (counts.of_number[number] > 0)
@@ -579,11 +592,19 @@ static enum outcome flush(struct relay *relay)
 }
 
 /* Counts a frame and says whether it is to be passed on. */
-static bool count_frame(const struct options *options, const uint8_t *frame, size_t frame_len)
+static bool count_frame(const struct options *options, const uint8_t *frame, const struct pv_fed *fed)
 {
     uint64_t extra[PV_EXTRA_SIZE];
+    size_t frame_len = fed->frame_len;
     counts.frames++;
     counts.frame_bytes += frame_len;
+    if (options->places)
+        fprintf(stderr, "relay: %s frame of %zu bytes at %" PRIu64 "\n", fed->kind == PV_UBX ? "UBX" : "RTCM", frame_len,
+                fed->place);
+    if (fed->kind == PV_UBX) {
+        counts.ubx++;
+        return options->pass_ubx;
+    }
     /* The message number is the first 12 bits of the data, if there are two bytes of data. */
     if (pv_field_read_unsigned(frame + 3, frame_len - PV_FRAME_MIN, 0, 12, extra, PV_EXTRA_SIZE) != PV_ACCEPTED) {
         counts.without_number++;
@@ -609,7 +630,7 @@ static enum outcome relay_piece(struct relay *relay, const uint8_t *piece, size_
         piece += fed.taken;
         n -= fed.taken;
         counts.skipped += fed.skipped;
-        if (fed.is_frame && count_frame(relay->options, frame, fed.frame_len))
+        if (fed.is_frame && count_frame(relay->options, frame, &fed))
             relay->waiting += fed.frame_len;
     } while (fed.is_frame);
     return flush(relay);
@@ -636,6 +657,7 @@ int main(int argc, char **argv)
     int given = read_options(argc, argv, &options);
     if (given != 0)
         return given > 0 ? EXIT_DONE : EXIT_USAGE;
+    scanner.mode = options.ubx ? PV_RTCM_AND_UBX : PV_RTCM_ONLY;
     if (occupy_standard_descriptors() != 0 || catch_signals() != 0) {
         failed("starting");
         return EXIT_FAILED;

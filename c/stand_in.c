@@ -125,10 +125,10 @@ uint32_t pv_frame_write(const uint8_t *data, size_t data_len, uint8_t *out, size
     return EITHER(frame_write)(data, data_len, out, out_len, extra, extra_len);
 }
 
-uint32_t pv_feed(uint8_t *held, size_t held_len, size_t held_count, const uint8_t *piece, size_t piece_len,
-                 uint8_t *out, size_t out_len, uint64_t *extra, size_t extra_len)
+uint32_t pv_feed(uint8_t *held, size_t held_len, size_t held_count, uint64_t taken, uint32_t mode,
+                 const uint8_t *piece, size_t piece_len, uint8_t *out, size_t out_len, uint64_t *extra, size_t extra_len)
 {
-    return EITHER(feed)(held, held_len, held_count, piece, piece_len, out, out_len, extra, extra_len);
+    return ref_feed(held, held_len, held_count, taken, mode, piece, piece_len, out, out_len, extra, extra_len);
 }
 
 uint32_t pv_1059_read(const uint8_t *data, size_t data_len, size_t start, uint8_t *satellites, size_t satellites_len,

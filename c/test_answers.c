@@ -81,6 +81,7 @@ static void scan_stream(void)
         if (!fed.is_frame)
             continue;
         CHECK_EQ(place, number(2));
+        CHECK_EQ(fed.place, place);
         CHECK_EQ(fed.frame_len, number(2));
         CHECK(memcmp(frame, stream + place, fed.frame_len) == 0);
         place += fed.frame_len;

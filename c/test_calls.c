@@ -103,13 +103,26 @@ static void set_1059(size_t i, unsigned satellite, unsigned signal, int bias)
 
 /* ---- The marked examples. ---- */
 
-static uint32_t feed_all(size_t *count)
+static uint64_t before_held; /* Bytes that went by before the held ones. */
+
+static uint32_t feed_in(uint32_t mode, size_t *count)
 {
-    uint32_t got = pv_feed(held.bytes, held.size, *count, piece.bytes, piece.size, OUT, EXTRA);
-    if (got == PV_ACCEPTED)
+    uint32_t got = pv_feed(held.bytes, held.size, *count, before_held + *count, mode, piece.bytes, piece.size, OUT, EXTRA);
+    if (got == PV_ACCEPTED) {
         *count = area_u64(&extra)[PV_AT_FED_HELD_COUNT];
+        before_held = area_u64(&extra)[PV_AT_FED_ALL_TAKEN] - *count;
+    }
     return got;
 }
+
+/* What feeding in a mode answers: the five numbers given, the place that goes with them, all taken, and the kind. */
+#define FED_IN(mode, is_frame, taken, skipped, left, len, kind)                                                        \
+    do {                                                                                                               \
+        uint64_t place = (is_frame) == PV_FRAME ? before_held + (skipped) : 0;                                         \
+        uint64_t all = before_held + count + (taken);                                                                  \
+        ACCEPTED(feed_in(mode, &count), is_frame, taken, skipped, left, len, place, all, kind);                        \
+    } while (0)
+#define FED(is_frame, taken, skipped, left, len) FED_IN(PV_RTCM_ONLY, is_frame, taken, skipped, left, len, PV_RTCM)
 
 static void example_1_to_3(void)
 {
@@ -135,15 +148,15 @@ static void example_4_and_5(void)
     area_lend(&held, PV_HELD_SIZE, 0x77);
     area_lend(&out, PV_FRAME_MAX + 3, 0x55);
     LEND(piece, 0xD3, 0, 0, 0xD3, 0, 0, 0x47, 0xEA, 0x4B);
-    ACCEPTED(feed_all(&count), PV_FRAME, 9, 3, 0, 6);
+    FED(PV_FRAME, 9, 3, 0, 6);
     HAS(out, 0xD3, 0, 0, 0x47, 0xEA, 0x4B, 0x55, 0x55);
     CHECK(area_same(&held));
     area_lend(&piece, 0, 0);
-    ACCEPTED(feed_all(&count), PV_MORE);
+    FED(PV_MORE, 0, 0, 0, 0);
 
     count = 0;
     LEND(piece, 0xD3, 0xD3, 0, 0, 0x47, 0xEA, 0x4B);
-    ACCEPTED(feed_all(&count), PV_MORE, 7, 0, 7, 0);
+    FED(PV_MORE, 7, 0, 7, 0);
     CHECK(area_same(&out));
     HAS(held, 0xD3, 0xD3, 0, 0, 0x47, 0xEA, 0x4B, 0x77, 0x77);
 }
@@ -389,19 +402,28 @@ static void feed_refusals(void)
     area_lend(&held, PV_HELD_SIZE, 0x11);
     area_lend(&piece, 65537, 0xD3);
     area_lend(&out, PV_FRAME_MAX - 1, 0x22);
-    REFUSED(pv_feed(held.bytes, 1029, 1030, piece.bytes, 65537, OUT, EXTRA), PV_STATE, 0);
-    REFUSED(pv_feed(held.bytes, 1029, SIZE_MAX, NULL, 0, NULL, 0, EXTRA), PV_STATE, 0);
-    REFUSED(pv_feed(held.bytes, 1029, 1029, piece.bytes, 65537, OUT, EXTRA), PV_SIZE, 0);
-    REFUSED(pv_feed(held.bytes, 1029, 0, piece.bytes, 65536, OUT, EXTRA), PV_ROOM, 1029);
-    REFUSED(pv_feed(held.bytes, 1029, 0, NULL, 0, NULL, 0, EXTRA), PV_ROOM, 1029);
+    const uint64_t most = PV_TAKEN_MAX;
+    REFUSED(pv_feed(held.bytes, 1029, 1030, 1030, 0, piece.bytes, 65537, OUT, EXTRA), PV_STATE, 0);
+    REFUSED(pv_feed(held.bytes, 1029, SIZE_MAX, UINT64_MAX, 0, NULL, 0, NULL, 0, EXTRA), PV_STATE, 0);
+    REFUSED(pv_feed(held.bytes, 1029, 5, 4, 0, piece.bytes, 65537, OUT, EXTRA), PV_STATE, 0);
+    REFUSED(pv_feed(held.bytes, 1029, 5, most + 1, 1, piece.bytes, 65537, OUT, EXTRA), PV_STATE, 0);
+    REFUSED(pv_feed(held.bytes, 1029, 5, UINT64_MAX, 0, NULL, 0, OUT, EXTRA), PV_STATE, 0);
+    REFUSED(pv_feed(held.bytes, 1029, 5, 5, 2, piece.bytes, 65537, OUT, EXTRA), PV_STATE, 0);
+    REFUSED(pv_feed(held.bytes, 1029, 0, 0, UINT32_MAX, NULL, 0, OUT, EXTRA), PV_STATE, 0);
+    REFUSED(pv_feed(held.bytes, 1029, 1029, 1029, 1, piece.bytes, 65537, OUT, EXTRA), PV_SIZE, 0);
+    REFUSED(pv_feed(held.bytes, 1029, 0, most, 0, piece.bytes, 1, OUT, EXTRA), PV_SIZE, 0);
+    REFUSED(pv_feed(held.bytes, 1029, 0, most - 9, 1, piece.bytes, 10, OUT, EXTRA), PV_SIZE, 0);
+    REFUSED(pv_feed(held.bytes, 1029, 0, most - 9, 1, piece.bytes, 9, OUT, EXTRA), PV_ROOM, 1029);
+    REFUSED(pv_feed(held.bytes, 1029, 0, 0, 0, piece.bytes, 65536, OUT, EXTRA), PV_ROOM, 1029);
+    REFUSED(pv_feed(held.bytes, 1029, 0, most, 1, NULL, 0, NULL, 0, EXTRA), PV_ROOM, 1029);
 
     /* A held area of another size writes nothing at all, whatever else is wrong. */
     const size_t wrong[] = { 0, 1, 1028, 1030, 2058 };
     for (size_t i = 0; i < sizeof wrong / sizeof wrong[0]; i++) {
         area_lend(&held, wrong[i], 0x11);
         ready();
-        CHECK_EQ(pv_feed(held.bytes, held.size, 0, piece.bytes, 10, OUT, EXTRA), PV_SIZE);
-        CHECK_EQ(pv_feed(held.bytes, held.size, 1030, piece.bytes, 65537, NULL, 0, EXTRA), PV_SIZE);
+        CHECK_EQ(pv_feed(held.bytes, held.size, 0, 0, 0, piece.bytes, 10, OUT, EXTRA), PV_SIZE);
+        CHECK_EQ(pv_feed(held.bytes, held.size, 1030, 0, 2, piece.bytes, 65537, NULL, 0, EXTRA), PV_SIZE);
         nothing_written("a held area of another size", __LINE__);
         CHECK(area_same(&extra));
     }
@@ -415,12 +437,12 @@ static void taken_is_the_furthest_byte_seen(void)
     area_lend(&out, PV_FRAME_MAX, 0);
     area_lend(&piece, 1040, 0x44);
     memcpy(piece.bytes, (const uint8_t[]){ 0xD3, 0x03, 0xFF, 0xD3, 0, 0, 0x47, 0xEA, 0x4B }, 9);
-    ACCEPTED(feed_all(&count), PV_FRAME, 1029, 3, 1020, 6);
+    FED(PV_FRAME, 1029, 3, 1020, 6);
     CHECK(area_same(&piece));
     /* The held bytes do not begin with D3; an empty piece skips them all, more than it takes. */
     CHECK_EQ(held.bytes[0], 0x44);
     area_lend(&piece, 0, 0);
-    ACCEPTED(feed_all(&count), PV_MORE, 0, 1020, 0, 0);
+    FED(PV_MORE, 0, 1020, 0, 0);
 }
 
 /* Two frames wait behind a false D3: once it is decided, an empty piece hands out the second. */
@@ -434,10 +456,10 @@ static void an_empty_piece_can_hand_out_a_frame(void)
     memcpy(piece.bytes, (const uint8_t[]){ 0xD3, 0, 13 }, 3);
     memcpy(piece.bytes + 3, frame, 6);
     memcpy(piece.bytes + 9, frame, 6);
-    ACCEPTED(feed_all(&count), PV_FRAME, 19, 3, 10, 6);
+    FED(PV_FRAME, 19, 3, 10, 6);
     area_lend(&piece, 0, 0);
-    ACCEPTED(feed_all(&count), PV_FRAME, 0, 0, 4, 6);
-    ACCEPTED(feed_all(&count), PV_MORE, 0, 4, 0, 0);
+    FED(PV_FRAME, 0, 0, 4, 6);
+    FED(PV_MORE, 0, 4, 0, 0);
 }
 
 /* A frame of the longest length, byte by byte, and from a held area that is full. */
@@ -453,20 +475,20 @@ static void the_longest_frame(void)
     area_lend(&out, PV_FRAME_MAX + 1, 0x31);
     for (size_t i = 0; i + 1 < sizeof frame; i++) {
         LEND(piece, frame[i]);
-        ACCEPTED(feed_all(&count), PV_MORE, 1, 0, i + 1, 0);
+        FED(PV_MORE, 1, 0, i + 1, 0);
     }
     CHECK(area_same(&out) && memcmp(held.bytes, frame, 1028) == 0 && held.bytes[1028] == 0x66);
     LEND(piece, frame[1028]);
-    ACCEPTED(feed_all(&count), PV_FRAME, 1, 0, 0, 1029);
+    FED(PV_FRAME, 1, 0, 0, 1029);
     CHECK(memcmp(out.bytes, frame, sizeof frame) == 0 && out.bytes[1029] == 0x31);
 
     memcpy(held.bytes, frame, sizeof frame);
     count = PV_HELD_SIZE;
     area_lend(&piece, 0, 0);
-    ACCEPTED(feed_all(&count), PV_FRAME, 0, 0, 0, 1029);
+    FED(PV_FRAME, 0, 0, 0, 1029);
     memset(held.bytes, 0x00, PV_HELD_SIZE);
     count = PV_HELD_SIZE;
-    ACCEPTED(feed_all(&count), PV_MORE, 0, 1029, 0, 0);
+    FED(PV_MORE, 0, 1029, 0, 0);
 }
 
 static void the_longest_piece(void)
@@ -475,11 +497,11 @@ static void the_longest_piece(void)
     area_lend(&held, PV_HELD_SIZE, 0);
     area_lend(&out, PV_FRAME_MAX, 0);
     area_lend(&piece, PV_PIECE_MAX, 0xD2);
-    ACCEPTED(feed_all(&count), PV_MORE, 65536, 65536, 0, 0);
+    FED(PV_MORE, 65536, 65536, 0, 0);
     piece.bytes[65535] = 0xD3;
-    ACCEPTED(feed_all(&count), PV_MORE, 65536, 65535, 1, 0);
+    FED(PV_MORE, 65536, 65535, 1, 0);
     ready();
-    CHECK_EQ(pv_feed(held.bytes, 1029, 1, NULL, 0, OUT, EXTRA), PV_ACCEPTED);
+    CHECK_EQ(pv_feed(held.bytes, 1029, 1, 1, 0, NULL, 0, OUT, EXTRA), PV_ACCEPTED);
     CHECK_EQ(area_u64(&extra)[PV_AT_FED_HELD_COUNT], 1);
 }
 
@@ -487,27 +509,142 @@ static void scanner_struct(void)
 {
     static const uint8_t stream[] = { 9, 0xD3, 0, 0, 0x47, 0xEA, 0x4B, 0xD3 };
     struct pv_scanner scanner = PV_SCANNER_FRESH;
-    struct pv_fed fed = { 7, 7, 7, 7 };
+    struct pv_fed fed = { 7, 7, 7, 7, 7, 7 };
     uint8_t frame[PV_FRAME_MAX] = { 0 };
     CHECK_EQ(pv_scanner_feed(&scanner, stream, sizeof stream, frame, 1028, &fed), PV_ROOM);
     CHECK(fed.is_frame == 7 && fed.taken == 7 && fed.skipped == 7 && fed.frame_len == 7 && scanner.held_count == 0);
+    CHECK(fed.place == 7 && fed.kind == 7 && scanner.taken == 0 && scanner.mode == PV_RTCM_ONLY);
     CHECK_EQ(pv_scanner_feed(&scanner, stream, sizeof stream, frame, sizeof frame, &fed), PV_ACCEPTED);
     CHECK(fed.is_frame == 1 && fed.taken == 7 && fed.skipped == 1 && fed.frame_len == 6 && scanner.held_count == 0);
+    CHECK(fed.place == 1 && fed.kind == PV_RTCM && scanner.taken == 7);
     CHECK_EQ(pv_scanner_feed(&scanner, stream + 7, 1, frame, sizeof frame, &fed), PV_ACCEPTED);
     CHECK(fed.is_frame == 0 && fed.taken == 1 && fed.skipped == 0 && fed.frame_len == 0 && scanner.held_count == 1);
     scanner.held_count = 1030;
     CHECK_EQ(pv_scanner_feed(&scanner, NULL, 0, frame, sizeof frame, &fed), PV_STATE);
     CHECK_EQ(scanner.held_count, 1030);
+    scanner.mode = PV_RTCM_AND_UBX;
     pv_scanner_reset(&scanner);
-    CHECK_EQ(scanner.held_count, 0);
+    CHECK(scanner.held_count == 0 && scanner.taken == 0 && scanner.mode == PV_RTCM_AND_UBX);
+    CHECK_EQ(pv_scanner_feed(&scanner, stream, sizeof stream, frame, sizeof frame, &fed), PV_ACCEPTED);
+    CHECK(fed.is_frame == 1 && fed.place == 1);
     memset(&scanner, 0xFF, sizeof scanner);
     pv_scanner_init(&scanner);
     CHECK(scanner.held_count == 0 && scanner.held[0] == 0 && scanner.held[1028] == 0);
+    CHECK(scanner.taken == 0 && scanner.mode == PV_RTCM_ONLY);
+}
+
+/* Places go on to the last byte of the longest stream, and no further. */
+static void the_longest_stream(void)
+{
+    size_t count = 0;
+    before_held = PV_TAKEN_MAX - 8;
+    area_lend(&held, PV_HELD_SIZE, 0);
+    area_lend(&out, PV_FRAME_MAX, 0);
+    LEND(piece, 9, 9, 0xD3, 0, 0, 0x47, 0xEA, 0x4B);
+    FED(PV_FRAME, 8, 2, 0, 6);
+    CHECK_EQ(area_u64(&extra)[PV_AT_FED_PLACE], PV_TAKEN_MAX - 6);
+    CHECK_EQ(area_u64(&extra)[PV_AT_FED_ALL_TAKEN], PV_TAKEN_MAX);
+    REFUSED(feed_in(PV_RTCM_ONLY, &count), PV_SIZE, 0);
+    area_lend(&piece, 0, 0);
+    FED(PV_MORE, 0, 0, 0, 0);
+    before_held = 0;
+}
+
+/* ---- UBX beside RTCM. ---- */
+
+/* Writes the UBX frame of n payload bytes as the public description has it, and gives its length. */
+static size_t put_ubx(uint8_t *at, unsigned class, unsigned id, size_t n, uint8_t fill)
+{
+    uint8_t a = 0, b = 0;
+    memset(at, fill, n + 8);
+    memcpy(at, (const uint8_t[]){ 0xB5, 0x62, (uint8_t)class, (uint8_t)id, (uint8_t)n, (uint8_t)(n >> 8) }, 6);
+    for (size_t i = 2; i < n + 6; i++) {
+        a = (uint8_t)(a + at[i]);
+        b = (uint8_t)(b + a);
+    }
+    at[n + 6] = a;
+    at[n + 7] = b;
+    return n + 8;
+}
+
+/* The acknowledgement and the question for the version that every receiver knows, with RTCM between. */
+static void both_kinds(void)
+{
+    static const uint8_t mixed[] = { 0xB5, 0x62, 5, 1, 2, 0, 6, 1, 0x0F, 0x38, 0xB5, 0, 0xD3, 0, 0, 0x47, 0xEA, 0x4B,
+                                     0xB5, 0x62, 0x0A, 4, 0, 0, 0x0E, 0x34 };
+    size_t count = 0;
+    area_lend(&held, PV_HELD_SIZE, 0);
+    area_lend(&out, PV_FRAME_MAX, 0);
+    lend_bytes(&piece, mixed, sizeof mixed);
+    FED_IN(PV_RTCM_AND_UBX, PV_FRAME, 10, 0, 0, 10, PV_UBX);
+    HAS(out, 0xB5, 0x62, 5, 1, 2, 0, 6, 1, 0x0F, 0x38);
+    lend_bytes(&piece, mixed + 10, 16);
+    FED_IN(PV_RTCM_AND_UBX, PV_FRAME, 8, 2, 0, 6, PV_RTCM);
+    lend_bytes(&piece, mixed + 18, 8);
+    FED_IN(PV_RTCM_AND_UBX, PV_FRAME, 8, 0, 0, 8, PV_UBX);
+    CHECK_EQ(before_held, sizeof mixed);
+    /* A scanner for RTCM only skips what is UBX. */
+    before_held = 0;
+    lend_bytes(&piece, mixed, sizeof mixed);
+    FED(PV_FRAME, 18, 12, 0, 6);
+    lend_bytes(&piece, mixed + 18, 8);
+    FED(PV_MORE, 8, 8, 0, 0);
+    before_held = 0;
+}
+
+/* Sums that are wrong in one or the other byte, and a B5 whose 62 does not come, cost one byte each. */
+static void ubx_is_given_up_by_one_byte(void)
+{
+    size_t count = 0;
+    area_lend(&held, PV_HELD_SIZE, 0);
+    area_lend(&out, PV_FRAME_MAX, 0);
+    LEND(piece, 0xB5, 0x62, 0x0A, 4, 0, 0, 0x0F, 0x34);
+    FED_IN(PV_RTCM_AND_UBX, PV_MORE, 8, 8, 0, 0, PV_RTCM);
+    LEND(piece, 0xB5, 0x62, 0x0A, 4, 0, 0, 0x0E, 0x35);
+    FED_IN(PV_RTCM_AND_UBX, PV_MORE, 8, 8, 0, 0, PV_RTCM);
+    LEND(piece, 0xB5, 0xB5, 0x62, 0x0A, 4, 0, 0, 0x0E, 0x34);
+    FED_IN(PV_RTCM_AND_UBX, PV_FRAME, 9, 1, 0, 8, PV_UBX);
+    LEND(piece, 0xB5);
+    FED_IN(PV_RTCM_AND_UBX, PV_MORE, 1, 0, 1, 0, PV_RTCM);
+    LEND(piece, 0x62, 1, 7, 0xFE);
+    FED_IN(PV_RTCM_AND_UBX, PV_MORE, 4, 0, 5, 0, PV_RTCM);
+    /* 1,022 bytes of payload are given up once the length is read. */
+    LEND(piece, 3);
+    FED_IN(PV_RTCM_AND_UBX, PV_MORE, 1, 6, 0, 0, PV_RTCM);
+    before_held = 0;
+}
+
+/* The longest payload fills the held area; one byte more is skipped, and a frame inside it is found. */
+static void the_longest_payload(void)
+{
+    static uint8_t frame[1040];
+    size_t count = 0;
+    area_lend(&held, PV_HELD_SIZE, 0);
+    area_lend(&out, PV_FRAME_MAX, 0);
+    size_t n = put_ubx(frame, 2, 0x15, PV_UBX_PAYLOAD_MAX, 0xB5);
+    CHECK_EQ(n, 1029);
+    area_lend(&piece, n - 1, 0);
+    memcpy(piece.bytes, frame, n - 1);
+    FED_IN(PV_RTCM_AND_UBX, PV_MORE, 1028, 0, 1028, 0, PV_RTCM);
+    LEND(piece, frame[1028]);
+    FED_IN(PV_RTCM_AND_UBX, PV_FRAME, 1, 0, 0, 1029, PV_UBX);
+    CHECK(memcmp(out.bytes, frame, n) == 0);
+
+    n = put_ubx(frame, 2, 0x15, PV_UBX_PAYLOAD_MAX + 1, 0);
+    put_ubx(frame + 100, 5, 1, 2, 6);
+    area_lend(&piece, n, 0);
+    memcpy(piece.bytes, frame, n);
+    FED_IN(PV_RTCM_AND_UBX, PV_FRAME, 110, 100, 0, 10, PV_UBX);
+    before_held = 0;
 }
 
 static void feeding(void)
 {
     feed_refusals();
+    the_longest_stream();
+    both_kinds();
+    ubx_is_given_up_by_one_byte();
+    the_longest_payload();
     taken_is_the_furthest_byte_seen();
     an_empty_piece_can_hand_out_a_frame();
     the_longest_frame();
@@ -1231,7 +1368,7 @@ static uint32_t call_number(unsigned call, uint64_t *numbers, size_t n)
     case 5: return pv_field_write_signmag(DATA, 0, 8, 1, numbers, n);
     case 6: return pv_frame_check(DATA, numbers, n);
     case 7: return pv_frame_write(DATA, OUT, numbers, n);
-    case 8: return pv_feed(held.bytes, held.size, 3, piece.bytes, piece.size, OUT, numbers, n);
+    case 8: return pv_feed(held.bytes, held.size, 3, 3, 1, piece.bytes, piece.size, OUT, numbers, n);
     case 9: return pv_1059_read(DATA, 0, LISTS_1059, numbers, n);
     case 10: return pv_1059_write(1, DATA, 0, LISTS_1059, numbers, n);
     case 11: return pv_1230_read(DATA, 0, LISTS_1230, numbers, n);

@@ -326,14 +326,57 @@ static void try_settings_read(void)
 
 /* ---- Feeding. ---- */
 
-#define STREAM_MAX 12000
+#define STREAM_MAX 13000
 
 static uint8_t stream[STREAM_MAX];
 
-/* One part of a stream: a good frame, a damaged or a cut one, noise, a run of D3, or a false start. */
+/* A UBX frame, made by the public description: at most 1,100 bytes of payload, and so some that are too long. */
+static size_t put_ubx(uint8_t *to)
+{
+    size_t n = one_in(12) ? PICK(0, 1, 1020, 1021, 1022, 1023, 1100) : below(one_in(4) ? 400 : 20);
+    unsigned a = 0, b = 0;
+    to[0] = 0xB5;
+    to[1] = 0x62;
+    for (size_t i = 2; i < n + 6; i++)
+        to[i] = (uint8_t)random64();
+    to[4] = (uint8_t)n;
+    to[5] = (uint8_t)(n >> 8);
+    for (size_t i = 2; i < n + 6; i++) {
+        a = (a + to[i]) % 256;
+        b = (b + a) % 256;
+    }
+    to[n + 6] = (uint8_t)a;
+    to[n + 7] = (uint8_t)b;
+    return n + 8;
+}
+
+/* A UBX frame that is good, damaged or cut, B5 alone or in a run, or B5 62 and any length. */
+static size_t put_ubx_part(uint8_t *to)
+{
+    size_t n = put_ubx(to);
+    switch (below(6)) {
+    case 0:
+        damage(to, n);
+        return n;
+    case 1:
+        return below(n);
+    case 2:
+        n = one_in(20) ? below(1100) : below(5);
+        memset(to, 0xB5, n);
+        return n;
+    case 3:
+        return 6;
+    default:
+        return n;
+    }
+}
+
+/* One part of a stream: a good frame, a damaged or a cut one, noise, a run of D3, a false start, or a part of UBX. */
 static size_t put_part(uint8_t *to)
 {
     size_t n;
+    if (one_in(3))
+        return put_ubx_part(to);
     switch (below(8)) {
     case 0:
         n = put_frame(to, random_data_length());
@@ -369,30 +412,31 @@ static size_t random_stream(void)
     return n;
 }
 
-/* What came out of a stream: kept as a checksum of the frames in order, and counts. */
+/* What came out of a stream: kept as a checksum of the frames and their places in order, and counts. */
 struct outcome {
     uint64_t frames, frame_bytes, sum, skipped, held;
 };
 
-static void add_frame(struct outcome *outcome, const uint8_t *frame, size_t n)
+static void add_frame(struct outcome *outcome, uint64_t place, const uint8_t *frame, size_t n)
 {
     outcome->frames++;
     outcome->frame_bytes += n;
+    outcome->sum = (outcome->sum ^ place) * 0x100000001B3;
     for (size_t i = 0; i < n; i++)
         outcome->sum = (outcome->sum ^ frame[i]) * 0x100000001B3;
 }
 
-static struct outcome whole_stream_scan(size_t n)
+static struct outcome whole_stream_scan(uint32_t mode, size_t n)
 {
     struct outcome outcome = { 0, 0, 0, 0, 0 };
     size_t place = 0;
     for (;;) {
         size_t frame_len = 1;
-        enum ref_fate fate = ref_scan(stream, n, place, &frame_len);
+        enum ref_fate fate = ref_scan(mode, stream, n, place, &frame_len);
         if (fate == REF_HELD)
             break;
         if (fate == REF_FRAME)
-            add_frame(&outcome, stream + place, frame_len);
+            add_frame(&outcome, place, stream + place, frame_len);
         else
             outcome.skipped++;
         place += frame_len;
@@ -401,11 +445,11 @@ static struct outcome whole_stream_scan(size_t n)
     return outcome;
 }
 
-static uint32_t feed_both(size_t held_count)
+static uint32_t feed_both(size_t held_count, uint64_t taken, uint32_t mode)
 {
     lend_extra();
-    uint32_t got = pv_feed(OURS(held), held_count, OURS(piece), OURS(out), OUR_EXTRA);
-    compare("pv_feed", got, ref_feed(THEIRS(held), held_count, THEIRS(piece), THEIRS(out), THEIR_EXTRA));
+    uint32_t got = pv_feed(OURS(held), held_count, taken, mode, OURS(piece), OURS(out), OUR_EXTRA);
+    compare("pv_feed", got, ref_feed(THEIRS(held), held_count, taken, mode, THEIRS(piece), THEIRS(out), THEIR_EXTRA));
     return extra.ours.size == 8 * PV_EXTRA_SIZE ? got : PV_SIZE;
 }
 
@@ -415,9 +459,11 @@ static void try_feed_refusals(size_t held_count)
     lend_random(&held, held_len);
     lend_random(&out, one_in(3) ? PICK(0, 1, 1028) : PV_FRAME_MAX);
     lend(&piece, one_in(8) ? PICK(65536, 65537, 65600) : below(9));
-    if (one_in(2))
+    uint64_t most = PV_TAKEN_MAX;
+    uint64_t taken = one_in(2) ? held_count + below(9) : PICK(0, 1, 1028, most - 65536, most - 8, most, most + 1, UINT64_MAX);
+    if (one_in(3))
         held_count = PICK(1030, 1031, SIZE_MAX, (size_t)1 << 32);
-    feed_both(held_count);
+    feed_both(held_count, taken, one_in(3) ? PICK(2, 3, UINT32_MAX) : below(2));
 }
 
 /* Held bytes that no run of the scanner would leave: any bytes, any count. */
@@ -430,7 +476,7 @@ static void try_strange_held(void)
     lend(&piece, one_in(2) ? below(40) : below(n));
     fill(&piece, stream);
     lend_random(&out, PV_FRAME_MAX + below(5));
-    feed_both(held_count);
+    feed_both(held_count, held_count + (one_in(2) ? 0 : below(100000)), below(2));
 }
 
 static size_t piece_length(size_t kind)
@@ -449,6 +495,7 @@ static void try_stream(void)
     size_t kind = below(5);
     size_t place = 0;
     size_t held_count = 0;
+    uint32_t mode = below(2);
     lend_random(&held, PV_HELD_SIZE);
     lend_random(&out, PV_FRAME_MAX);
     while (place < n) {
@@ -457,7 +504,7 @@ static void try_stream(void)
         for (;;) {
             lend(&piece, end - place);
             fill(&piece, stream + place);
-            if (feed_both(held_count) != PV_ACCEPTED)
+            if (feed_both(held_count, place, mode) != PV_ACCEPTED)
                 continue;
             const uint64_t *numbers = area_u64(&extra.ours);
             held_count = numbers[PV_AT_FED_HELD_COUNT];
@@ -465,12 +512,12 @@ static void try_stream(void)
             outcome.skipped += numbers[PV_AT_FED_SKIPPED];
             if (numbers[PV_AT_FED_IS_FRAME] != PV_FRAME)
                 break;
-            add_frame(&outcome, out.ours.bytes, numbers[PV_AT_FED_FRAME_LENGTH]);
+            add_frame(&outcome, numbers[PV_AT_FED_PLACE], out.ours.bytes, numbers[PV_AT_FED_FRAME_LENGTH]);
         }
         CHECK_EQ(outcome.frame_bytes + outcome.skipped + held_count, place);
     }
     outcome.held = held_count;
-    struct outcome expected = whole_stream_scan(n);
+    struct outcome expected = whole_stream_scan(mode, n);
     CHECK(memcmp(&outcome, &expected, sizeof outcome) == 0);
 }
 

@@ -71,7 +71,7 @@ static struct recording scan_in_pieces(size_t piece_len, frame_visitor *visit)
 {
     struct recording found = { "", 0, 0, 0, 0 };
     struct pv_scanner scanner = PV_SCANNER_FRESH;
-    struct pv_fed fed = { 0, 0, 0, 0 };
+    struct pv_fed fed = { 0, 0, 0, 0, 0, 0 };
     uint8_t frame[PV_FRAME_MAX] = { 0 };
     size_t given_out = 0;
     while (found.bytes < stream_len) {
@@ -80,8 +80,10 @@ static struct recording scan_in_pieces(size_t piece_len, frame_visitor *visit)
             CHECK_EQ(pv_scanner_feed(&scanner, stream + found.bytes, end - found.bytes, frame, sizeof frame, &fed), 0);
             found.bytes += fed.taken;
             found.skipped += fed.skipped;
+            CHECK_EQ(fed.place, fed.is_frame ? given_out + found.skipped : 0);
+            CHECK_EQ(scanner.taken, found.bytes);
             if (fed.is_frame && visit != NULL)
-                visit(frame, given_out + found.skipped);
+                visit(frame, fed.place);
             found.frames += (size_t)fed.is_frame;
             given_out += fed.frame_len;
         } while (fed.is_frame);
@@ -202,6 +204,31 @@ static void open_decoded(const char *path)
     CHECK(decoded != NULL && fgets(line, sizeof line, decoded) != NULL);
 }
 
+/* The recording of a receiver that mixes UBX in: how many frames of each kind, and all other bytes, in pieces. */
+static void scan_both_kinds(size_t piece_len)
+{
+    struct pv_scanner scanner = PV_SCANNER_FRESH_BOTH;
+    struct pv_fed fed = { 0, 0, 0, 0, 0, 0 };
+    uint8_t frame[PV_FRAME_MAX] = { 0 };
+    size_t at = 0, kinds[2] = { 0, 0 }, framed = 0, skipped = 0;
+    while (at < stream_len) {
+        size_t end = stream_len - at < piece_len ? stream_len : at + piece_len;
+        do {
+            CHECK_EQ(pv_scanner_feed(&scanner, stream + at, end - at, frame, sizeof frame, &fed), PV_ACCEPTED);
+            at += fed.taken;
+            skipped += fed.skipped;
+            if (!fed.is_frame)
+                continue;
+            CHECK(memcmp(frame, stream + fed.place, fed.frame_len) == 0);
+            kinds[fed.kind]++;
+            framed += fed.frame_len;
+        } while (fed.is_frame);
+    }
+    CHECK_EQ(kinds[PV_RTCM], 15);
+    CHECK_EQ(kinds[PV_UBX], 14);
+    CHECK_EQ(framed + skipped + scanner.held_count, stream_len);
+}
+
 int main(int argc, char **argv)
 {
     size_t scanned = 0;
@@ -215,6 +242,9 @@ int main(int argc, char **argv)
             CHECK_EQ(read_file(argv[a]), 0);
             scan_recording(&recordings[i]);
             scanned++;
+            if (strcmp(recordings[i].name, "ublox-f9p-rtcm.bin") == 0)
+                for (size_t n = 1; n <= 65536; n = n * 13 + 1)
+                    scan_both_kinds(n);
         }
     }
     CHECK_EQ(scanned, sizeof recordings / sizeof recordings[0]);

@@ -318,7 +318,28 @@ settings_file() {
     rm -f "$file" "$work/short" "$work/damaged" "$work/zeros" "$work/old"
 }
 
+# An acknowledgement of UBX, an RTCM frame, and the question for the version of UBX.
+ubx_and_rtcm() {
+    ack='\265\142\005\001\002\000\006\001\017\070'
+    rtcm='\323\000\000\107\352\113'
+    version='\265\142\012\004\000\000\016\064'
+    printf "$ack$rtcm$version" >"$work/mixed"
+    printf "$rtcm" >"$work/rtcm"
+    relay <"$work/mixed" >"$work/out" 2>"$work/err1"
+    check_same "UBX is skipped" "$work/out" "$work/rtcm"
+    check "skipped UBX is counted" "$(counted "$work/err1")" "1 18 0"
+    relay --ubx drop <"$work/mixed" >"$work/out" 2>"$work/err1"
+    check_same "UBX is dropped" "$work/out" "$work/rtcm"
+    check "dropped UBX is no skipped byte" "$(counted "$work/err1")" "3 0 0"
+    relay --ubx pass --places <"$work/mixed" >"$work/out" 2>"$work/err1"
+    check_same "UBX is passed on" "$work/out" "$work/mixed"
+    check "places and kinds" "$(sed -n 's/^relay: \(.*\) frame of \(.*\) bytes at /\1 \2 /p' "$work/err1" | tr '\n' ';')" \
+        "UBX 10 0;RTCM 6 10;UBX 8 16;"
+    status_of 2 --ubx both
+}
+
 options
+ubx_and_rtcm
 for recording in "$@"; do
     "$build/expected" <"$recording" >"$work/frames" 2>"$work/counts"
     through_a_pipe "$recording" 1

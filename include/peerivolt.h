@@ -66,7 +66,7 @@ uint32_t pv_version(void);
 #define PV_ROOM 8u        /* A lent output is too small. Carries what would have been needed; each function says in what. */
 #define PV_SIZE 9u        /* An input above its limit, lists of unequal length, or an area of fixed size with another size. */
 #define PV_NO_PREAMBLE 10u /* The first byte is not D3. */
-#define PV_STATE 11u      /* A scanner's held count above 1,029. */
+#define PV_STATE 11u      /* A scanner's held count above 1,029 or above its bytes taken, over 2^48 taken, or a mode that there is not. */
 #define PV_INCOMPLETE 12u /* The bytes end before the frame does: more bytes may make it whole. */
 #define PV_KIND 13u       /* Another message number, or another edition, than the call takes. */
 #define PV_BAD_CHECK 14u  /* The checksum differs. Carries the one sent, and in extra[PV_AT_CARRIED_TOO] the one computed. */
@@ -91,6 +91,8 @@ static inline const char *pv_refusal_name(uint32_t number)
 #define PV_FRAME_MAX 1029    /* Bytes in the longest frame, and the least output that feeding accepts. */
 #define PV_DATA_MAX 1023     /* Bytes in the longest data area. */
 #define PV_PIECE_MAX 65536   /* Bytes in the longest piece that one feeding call accepts. */
+#define PV_TAKEN_MAX 281474976710656 /* Bytes in the longest stream that a scanner takes: 2^48. */
+#define PV_UBX_PAYLOAD_MAX 1021 /* Bytes in the longest UBX payload that a scanner hands out. */
 #define PV_1059_READ_MAX 422 /* Records that always suffice for reading a 1059 block. */
 #define PV_1059_WRITE_MAX 1953 /* Records in the longest list that a 1059 block is written from. */
 #define PV_1230_MAX 4        /* Records in the longest 1230 block, in reading and in writing. */
@@ -122,6 +124,9 @@ static inline const char *pv_refusal_name(uint32_t number)
 #define PV_AT_FED_SKIPPED 2      /* Feeding: bytes skipped in this call. */
 #define PV_AT_FED_HELD_COUNT 3   /* Feeding: the held count from now on. */
 #define PV_AT_FED_FRAME_LENGTH 4 /* Feeding: bytes of the frame in the output, or 0. */
+#define PV_AT_FED_PLACE 5        /* Feeding: the stream place of the frame's first byte, or 0. */
+#define PV_AT_FED_ALL_TAKEN 6    /* Feeding: bytes taken since fresh, from now on. */
+#define PV_AT_FED_KIND 7         /* Feeding: PV_RTCM or PV_UBX; PV_RTCM also where there is no frame. */
 
 #define PV_AT_READ_RECORDS 0 /* Block read: how many records. */
 #define PV_AT_READ_END 1     /* Block read: the bit behind the block. */
@@ -156,6 +161,14 @@ static inline const char *pv_refusal_name(uint32_t number)
 /* What feeding answers at PV_AT_FED_IS_FRAME. */
 #define PV_MORE 0  /* The whole piece was taken, and there is no frame yet. */
 #define PV_FRAME 1 /* A frame was handed out. */
+
+/* The kinds of frames, at PV_AT_FED_KIND. */
+#define PV_RTCM 0
+#define PV_UBX 1
+
+/* What a scanner is opened for: its mode. */
+#define PV_RTCM_ONLY 0u
+#define PV_RTCM_AND_UBX 1u
 
 /* ---- Checksum. ---- */
 
@@ -238,9 +251,17 @@ uint32_t pv_differing(const uint8_t *sent, size_t sent_len, const uint8_t *recei
 /* ---- Scanning a stream that comes in pieces. ---- */
 
 /*
- * Feeds a piece of the stream to a scanner and hands out at most one frame. A scanner is its held bytes: an area of
- * exactly 1,029 bytes, and how many of them are held. A fresh scanner has a held count of 0, and setting the count to 0
- * resets it. Most programs use pv_scanner_feed below, which keeps the two together.
+ * Feeds a piece of the stream to a scanner and hands out at most one frame. A scanner is its held bytes, an area of
+ * exactly 1,029 bytes, and three numbers: how many of the bytes are held, how many bytes it took since it was fresh, and
+ * its mode, PV_RTCM_ONLY or PV_RTCM_AND_UBX. A fresh scanner has a held count of 0 and has taken 0; setting both to 0
+ * resets it, and the mode stays. Most programs use pv_scanner_feed below, which keeps all of it together.
+ *
+ * A frame's place is where its first byte stands in the stream, counted from 0 at the first byte taken since fresh.
+ *
+ * In PV_RTCM_AND_UBX the scanner hands out UBX frames too: B5 62, class, id, the payload's length in two bytes, low byte
+ * first, the payload, and two sums. The leftmost frame comes first. A B5 is skipped as soon as another byte than 62
+ * follows it, its length is above PV_UBX_PAYLOAD_MAX, or its sums are wrong. Receivers send longer UBX messages too: their
+ * bytes are skipped. A UBX candidate that waits for bytes holds back the frames behind it, as a D3 does.
  *
  * The scanner skips each byte that starts no frame, one at a time: after a bad checksum it skips that one D3 and not the
  * declared length, so a good frame inside the damage is found. How the stream is cut into pieces makes no difference.
@@ -260,13 +281,16 @@ uint32_t pv_differing(const uint8_t *sent, size_t sent_len, const uint8_t *recei
  * - From fresh, bytes taken equal bytes in frames plus bytes skipped plus bytes held.
  *
  * Refuses, in this order: PV_SIZE (held_len is not 1,029; like a wrong extra_len this writes nothing at all, `extra`
- * included), PV_STATE (held_count above 1,029), PV_SIZE (piece above 65,536 bytes), PV_ROOM (output below 1,029 bytes,
- * also where no frame would come; carries 1,029). Keep the old held count after a refusal.
- * Answers: [PV_AT_FED_IS_FRAME] PV_MORE or PV_FRAME; [PV_AT_FED_TAKEN]; [PV_AT_FED_SKIPPED]; [PV_AT_FED_HELD_COUNT]
- * the count to pass to the next call; [PV_AT_FED_FRAME_LENGTH]. The held area past that count stays as it was.
+ * included), PV_STATE (held_count above 1,029 or above `taken`, `taken` above 2^48, `mode` above 1), PV_SIZE (piece above
+ * 65,536 bytes, or `taken` with the piece above 2^48), PV_ROOM (output below 1,029 bytes, also where no frame would come;
+ * carries 1,029). Keep the old numbers after a refusal.
+ * Answers: [PV_AT_FED_IS_FRAME] PV_MORE or PV_FRAME; [PV_AT_FED_TAKEN]; [PV_AT_FED_SKIPPED]; [PV_AT_FED_HELD_COUNT] and
+ * [PV_AT_FED_ALL_TAKEN] the numbers to pass to the next call; [PV_AT_FED_FRAME_LENGTH]; [PV_AT_FED_PLACE];
+ * [PV_AT_FED_KIND]. The held area past the held count stays as it was.
  */
-uint32_t pv_feed(uint8_t *held, size_t held_len, size_t held_count, const uint8_t *piece, size_t piece_len,
-                 uint8_t *out, size_t out_len, uint64_t *extra, size_t extra_len);
+uint32_t pv_feed(uint8_t *held, size_t held_len, size_t held_count, uint64_t taken, uint32_t mode,
+                 const uint8_t *piece, size_t piece_len, uint8_t *out, size_t out_len,
+                 uint64_t *extra, size_t extra_len);
 
 /* ---- The bias block of message 1059 (GPS code biases). ---- */
 
@@ -469,7 +493,7 @@ uint32_t pv_number_of(uint32_t system, uint32_t band, uint32_t letter, uint64_t 
 uint32_t pv_signal_order(uint32_t system, uint32_t band_a, uint32_t letter_a, uint32_t band_b, uint32_t letter_b,
                          uint64_t *extra, size_t extra_len);
 
-/* ---- A scanner that keeps its held bytes and their count together. ---- */
+/* ---- A scanner that keeps its held bytes and its numbers together. ---- */
 
 /*
  * The caller has it in its own memory, so its layout is a part of the interface: a library whose scanner has another
@@ -478,6 +502,8 @@ uint32_t pv_signal_order(uint32_t system, uint32_t band_a, uint32_t letter_a, ui
 struct pv_scanner {
     uint8_t held[PV_HELD_SIZE];
     size_t held_count;
+    uint64_t taken; /* Bytes taken since fresh. */
+    uint32_t mode;  /* PV_RTCM_ONLY or PV_RTCM_AND_UBX. */
 };
 
 /* What an accepted call of pv_scanner_feed answers. */
@@ -486,24 +512,33 @@ struct pv_fed {
     size_t taken;     /* Bytes of the piece taken: the next call gets piece + taken. */
     size_t skipped;   /* Bytes skipped in this call, held ones included. */
     size_t frame_len; /* Bytes of the frame, or 0. */
+    uint64_t place;   /* The stream place of the frame's first byte, or 0. */
+    int kind;         /* PV_RTCM or PV_UBX. */
 };
 
-/* Initialises a scanner where it is defined: struct pv_scanner s = PV_SCANNER_FRESH; */
-#define PV_SCANNER_FRESH { { 0 }, 0 }
+/* Initialises a scanner where it is defined, for RTCM only or for both kinds: struct pv_scanner s = PV_SCANNER_FRESH; */
+#define PV_SCANNER_FRESH { { 0 }, 0, 0, PV_RTCM_ONLY }
+#define PV_SCANNER_FRESH_BOTH { { 0 }, 0, 0, PV_RTCM_AND_UBX }
 
-/* Makes a fresh scanner in memory that may hold anything. */
+/* Makes a fresh scanner for RTCM only in memory that may hold anything; set its mode then for both kinds. */
 static inline void pv_scanner_init(struct pv_scanner *scanner)
 {
     size_t i;
     for (i = 0; i < PV_HELD_SIZE; i++)
         scanner->held[i] = 0;
     scanner->held_count = 0;
+    scanner->taken = 0;
+    scanner->mode = PV_RTCM_ONLY;
 }
 
-/* Forgets the held bytes, as after a lost connection: what comes next is the start of another stream. */
+/*
+ * Forgets the held bytes, as after a lost connection: what comes next is the start of another stream, at place 0. The mode
+ * stays.
+ */
 static inline void pv_scanner_reset(struct pv_scanner *scanner)
 {
     scanner->held_count = 0;
+    scanner->taken = 0;
 }
 
 /*
@@ -514,15 +549,18 @@ static inline uint32_t pv_scanner_feed(struct pv_scanner *scanner, const uint8_t
                                        uint8_t *out, size_t out_len, struct pv_fed *fed)
 {
     uint64_t extra[PV_EXTRA_SIZE];
-    uint32_t refusal = pv_feed(scanner->held, PV_HELD_SIZE, scanner->held_count, piece, piece_len, out, out_len,
-                               extra, PV_EXTRA_SIZE);
+    uint32_t refusal = pv_feed(scanner->held, PV_HELD_SIZE, scanner->held_count, scanner->taken, scanner->mode,
+                               piece, piece_len, out, out_len, extra, PV_EXTRA_SIZE);
     if (refusal != PV_ACCEPTED)
         return refusal;
     scanner->held_count = extra[PV_AT_FED_HELD_COUNT];
+    scanner->taken = extra[PV_AT_FED_ALL_TAKEN];
     fed->is_frame = extra[PV_AT_FED_IS_FRAME] == PV_FRAME;
     fed->taken = extra[PV_AT_FED_TAKEN];
     fed->skipped = extra[PV_AT_FED_SKIPPED];
     fed->frame_len = extra[PV_AT_FED_FRAME_LENGTH];
+    fed->place = extra[PV_AT_FED_PLACE];
+    fed->kind = (int)extra[PV_AT_FED_KIND];
     return PV_ACCEPTED;
 }
 

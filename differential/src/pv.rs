@@ -53,6 +53,8 @@ mod raw {
             held: *mut u8,
             held_len: usize,
             held_count: usize,
+            taken: u64,
+            mode: u32,
             piece: *const u8,
             piece_len: usize,
             out: *mut u8,
@@ -213,11 +215,14 @@ pub fn frame_write(data: &[u8], out: &mut [u8]) -> Told {
     ))
 }
 
+/// A scanner for RTCM only whose first held byte stands at place 0.
 pub fn feed(held: &mut [u8], held_count: usize, piece: &[u8], out: &mut [u8]) -> Told {
     told!(pv_feed(
         held.as_mut_ptr(),
         held.len(),
         held_count,
+        held_count as u64,
+        0,
         piece.as_ptr(),
         piece.len(),
         out.as_mut_ptr(),

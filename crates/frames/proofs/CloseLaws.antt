@@ -4,8 +4,9 @@ use mathlib.Core.List.{List, [], _∷_, _++_, append-nil}
 use Prim.Native.Nat.{ℕ, zero, suc, _+_, pred}
 use native.Mathlib.Omega.{arith}
 use lib.ListN.{length, take}
-use Rattle.frames.specs.Scan.{Decision, Skip, Take, Wait, Item, step, scanPast, scan, bytesOf, framesOf, skippedOf, framed}
+use Rattle.frames.specs.Scan.{Decision, Skip, Take, Wait, Item, step, scanPast, Handed, scan, bytesOf, handed, skippedOf, framed}
 use Rattle.frames.specs.Framing.{Framing, Lawful, decide}
+use Rattle.frames.specs.Call.{Scanner, heldFrom}
 use Rattle.frames.specs.Offered.{Calls}
 use Rattle.frames.proofs.FramingLaws.{Whole, decides}
 use Rattle.frames.proofs.ItemLaws.{length-items}
@@ -54,14 +55,14 @@ module _ {W K : Type 0} (F : Framing W K) (L : Lawful F) where
   every-byte-closed s = rw (all-given (scan (decide F) s .held)) (every-byte (decide F) (decides F L .whole) s)
 
   -- the same of calls as they were made: the frames handed out and the bytes skipped are those of items that, with those of the closing, are what was taken
-  pub every-byte-once : {s a : List ℕ} {fs : List (List ℕ)} {k n : ℕ} → Calls F s fs k a n
-      → (is : List (Item W K)) × (framesOf is ≡ fs) × (skippedOf is ≡ k) × (bytesOf is ++ bytesOf (closed F (take n a)) ≡ s)
-  every-byte-once {s} {a} {fs} {k} {n} r =
-      let x = takens.taken F L r in
-      (x .items, x .frames, x .skipped, rw (all-given (take n a)) (x .bytes))
+  pub every-byte-once : {s a : List ℕ} {fs : List (Handed K)} {n : ℕ} {x : Scanner} → Calls F s fs n a x
+      → (is : List (Item W K)) × (handed 0 is ≡ fs) × (skippedOf is ≡ n) × (bytesOf is ++ bytesOf (closed F (take (x .count) a)) ≡ s)
+  every-byte-once {s} {a} {fs} {n} {x} c =
+      let r = takens.taken F L c in
+      (r .items, r .frames, r .skipped, rw (all-given (take (x .count) a)) (r .bytes))
 
   -- THE SUM of a recording: bytes taken are the bytes in frames, fed or salvaged, plus skipped, in feeding or in closing.
-  pub sum-closed : {s a : List ℕ} {fs : List (List ℕ)} {k n : ℕ} → Calls F s fs k a n
-      → length s ≡ (framed fs + framed (framesOf (closed F (take n a)))) + (k + skippedOf (closed F (take n a)))
-  sum-closed {s} {a} {fs} {k} {n} r =
-      omega (arith, takens.sum F L r, takens.taken F L r .count, length-items (closed F (take n a)), ap length (all-given (take n a)))
+  pub sum-closed : {s a : List ℕ} {fs : List (Handed K)} {n : ℕ} {x : Scanner} → Calls F s fs n a x
+      → length s ≡ (framed fs + framed (handed (heldFrom x) (closed F (take (x .count) a)))) + (n + skippedOf (closed F (take (x .count) a)))
+  sum-closed {s} {a} {fs} {n} {x} c =
+      omega (arith, takens.sum F L c, takens.taken F L c .count, length-items (heldFrom x) (closed F (take (x .count) a)), ap length (all-given (take (x .count) a)))

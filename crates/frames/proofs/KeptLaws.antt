@@ -7,7 +7,7 @@ use lib.ListN.{length, take, drop, length-append, take-append-drop}
 use lib.Seq.{append-snoc, drop-at, take-at, drop-drop}
 use Rattle.frames.specs.Scan.{Decision, Wait, Item, Skipped, Framed, bytesOf, framesOf, skippedOf}
 use Rattle.frames.specs.Feed.{Next, Held, Found, skipping, next, Fed, More, Frame, past, feed}
-use Rattle.frames.proofs.ItemLaws.{bytes-append, frames-append, length-items}
+use Rattle.frames.proofs.ItemLaws.{bytes-append, frames-append, handed-none, length-items}
 use Rattle.frames.proofs.FeedInduction.{along-next, along-feed}
 
 -- the items are no frames, and their bytes with z behind are s
@@ -24,7 +24,7 @@ module _ {W K : Type 0} where
   skipped-alone (Framed k f ∷ is) e = let z : _≡_ {A = ℕ} 0 1 = cc in absurd (omega arith)
 
   pub bytes-alone : (is : List (Item W K)) → framesOf is ≡ [] → length (bytesOf is) ≡ length is
-  bytes-alone is e = length-items is ∙ rw (e, skipped-alone is e) (omega arith)
+  bytes-alone is e = length-items 0 is ∙ rw (handed-none 0 is e, skipped-alone is e) (omega arith)
 
   module _ (is : List (Item W K)) where
     -- so counts say contents

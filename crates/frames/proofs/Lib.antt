@@ -29,6 +29,7 @@ pub mod EitherLaws
 pub mod ModeLaws
 pub mod StartLaws
 pub mod AmongLaws
+pub mod KindLaws
 pub mod SumsLaws
 pub mod UbxSeenLaws
 pub mod UbxExamples

@@ -5,9 +5,10 @@ use mathlib.Core.List.{List, _++_, flatten}
 use Prim.Native.Nat.{ℕ, _+_, _<_}
 use lib.ListN.{length, take}
 use lib.Dec.{eqb}
-use Rattle.frames.specs.Scan.{Wait, after, scan, framed}
+use Rattle.frames.specs.Scan.{Wait, Handed, after, scan, framed}
 use Rattle.frames.specs.Framing.{Lawful, decide}
-use Rattle.frames.specs.Rtcm.{rtcm}
+use Rattle.frames.specs.Rtcm.{Kind, rtcm}
+use Rattle.frames.specs.Call.{Scanner, fresh}
 use Rattle.frames.specs.Offered.{Scans, Offers, Calls}
 use Rattle.frames.proofs.FramingLaws as framing
 use Rattle.frames.proofs.JoinLaws as joining
@@ -44,12 +45,12 @@ module _ (mode : ℕ) where
   join = joining.join (decide (framingOf mode)) (framing.decides (framingOf mode) (lawful mode))
 
   -- DEMAND 3 in every mode
-  pub demand : {a b : List ℕ} {s m : ℕ} {ps fs : List (List ℕ)} → Offers (framingOf mode) a 0 ps fs s b m
-      → Scans (framingOf mode) (flatten ps) fs s (take m b) × (length (take m b) ≡ m)
+  pub demand : {a b : List ℕ} {s : ℕ} {y : Scanner} {ps : List (List ℕ)} {fs : List (Handed Kind)} → Offers (framingOf mode) a (fresh mode) ps fs s b y
+      → Scans (framingOf mode) 0 (flatten ps) fs s (take (y .count) b) × (length (take (y .count) b) ≡ y .count) × (y .taken ≡ length (flatten ps)) × (y .mode ≡ mode)
   demand = demands.demand (framingOf mode) (lawful mode)
 
   -- THE SUM in every mode
-  pub sum : {s a : List ℕ} {fs : List (List ℕ)} {k n : ℕ} → Calls (framingOf mode) s fs k a n → length s ≡ framed fs + k + n
+  pub sum : {s a : List ℕ} {fs : List (Handed Kind)} {n : ℕ} {x : Scanner} → Calls (framingOf mode) s fs n a x → length s ≡ framed fs + n + x .count
   sum = takens.sum (framingOf mode) (lawful mode)
 
   -- what is held is fewer than 1,029 bytes

@@ -5,8 +5,9 @@ use Prim.Native.Nat.{ℕ, _+_, _-_, _≤_}
 use native.Mathlib.Omega.{arith}
 use lib.ListN.{length, length-append}
 use borrow.Author.Tests.{lt-ltb, le-ltb}
-use Rattle.frames.specs.Scan.{Item, Skipped, Framed, placed, scan, bytesOf, skippedOf, skipsBefore}
+use Rattle.frames.specs.Scan.{Item, Skipped, Framed, Handed, placed, scan, bytesOf, skippedOf, skipsBefore}
 use Rattle.frames.specs.Framing.{Framing, decide, Lawful}
+use Rattle.frames.specs.Call.{Scanner}
 use Rattle.frames.specs.Offered.{Calls}
 use Rattle.frames.proofs.TakenLaws.{taken}
 
@@ -24,10 +25,10 @@ module _ {W K : Type 0} where
   up-to e m (Framed k f ∷ is) js h = omega (arith, up-to e (m + length f) is js (omega (arith, length-append f (bytesOf is))))
 
 -- Over any accepted calls from fresh the skipped total counts the places before the held bytes that the scan of all that was taken skips.
-pub skipped-places : {W K : Type 0} (F : Framing W K) (L : Lawful F) {s a : List ℕ} {fs : List (List ℕ)} {k n : ℕ} → Calls F s fs k a n
-    → skipsBefore (length s - n) (placed 0 (scan (decide F) s .items)) ≡ k
-skipped-places F L {s} {a} {fs} {k} {n} r =
-    let x = taken F L r in
-    let u = ap (scan (decide F)) (sym (append-nil s)) ∙ x .onward [] in
-    let e : 0 + length (bytesOf (x .items)) ≡ length s - n = omega (arith, simp length-append at (ap length (x .bytes)), x .count) in
-    ap (λ z. skipsBefore (length s - n) (placed 0 (z .items))) u ∙ up-to (length s - n) 0 (x .items) _ e ∙ x .skipped
+pub skipped-places : {W K : Type 0} (F : Framing W K) (L : Lawful F) {s a : List ℕ} {fs : List (Handed K)} {n : ℕ} {x : Scanner} → Calls F s fs n a x
+    → skipsBefore (length s - x .count) (placed 0 (scan (decide F) s .items)) ≡ n
+skipped-places F L {s} {a} {fs} {n} {x} r =
+    let t = taken F L r in
+    let u = ap (scan (decide F)) (sym (append-nil s)) ∙ t .onward [] in
+    let e : 0 + length (bytesOf (t .items)) ≡ length s - x .count = omega (arith, simp length-append at (ap length (t .bytes)), t .count) in
+    ap (λ z. skipsBefore (length s - x .count) (placed 0 (z .items))) u ∙ up-to (length s - x .count) 0 (t .items) _ e ∙ t .skipped

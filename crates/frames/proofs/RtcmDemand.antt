@@ -1,23 +1,23 @@
 -- WHAT THE SCANNER OF RTCM PROMISES, one theorem a promise, of the calls as they are made. Assumes nothing.
 use mathlib.Core.Path.{_≡_, ap}
 use mathlib.Core.List.{List, _++_, flatten, map}
-use Prim.Native.Nat.{ℕ, _+_, _-_, _≤_, _<_}
+use Prim.Native.Nat.{ℕ, _+_, _-_, _^_, _≤_, _<_}
 use native.Mathlib.Omega.{arith}
 use lib.ListN.{length, take, drop}
 use Rattle.bits.specs.Told.{Accepted}
 use Rattle.bits.specs.Outcome.{outcome}
-use Rattle.frames.specs.Scan.{Wait, after, scan, bytesOf, framesOf, framed, placed, skipsBefore}
+use Rattle.frames.specs.Scan.{Wait, Handed, after, scan, bytesOf, framesOf, framed, placed, skipsBefore}
 use Rattle.frames.specs.Framing.{decide}
-use Rattle.frames.specs.Call.{More, feedOf}
+use Rattle.frames.specs.Call.{Scanner, fresh, More, feedOf}
 use Rattle.frames.specs.Offered.{Scans, Pieces, Offered, Offers, Chain, Calls}
-use Rattle.frames.specs.Rtcm.{rtcm, decideAt}
+use Rattle.frames.specs.Rtcm.{Kind, rtcm, decideAt}
 use Rattle.frames.specs.Walk.{Place, Walked, framesAt, cut}
 use Rattle.frames.proofs.RtcmLaws.{rtcm-lawful, decides-at}
 use Rattle.frames.proofs.FramingLaws.{decides, decided-in-time}
 use Rattle.frames.proofs.JoinLaws.{join, every-byte}
 use Rattle.frames.proofs.CallLaws.{Fits}
 use Rattle.frames.proofs.AnswerLaws.{AnswersFirst, answers-first, is-more}
-use Rattle.frames.proofs.Demand.{demand, any-cut, two-as-one, offers}
+use Rattle.frames.proofs.Demand.{demand, any-cut, two-as-one, Feedable, offers}
 use Rattle.frames.proofs.TakenLaws.{sum}
 use Rattle.frames.proofs.PlaceLaws.{skipped-places}
 use Rattle.frames.proofs.ProgressLaws.{toCome, chain-ends}
@@ -49,42 +49,45 @@ rtcm-walked {s} w = let x = walked rtcm s rtcm-lawful (omega arith) w in (x .pla
 -- ---- one call
 
 -- A call answers More exactly if the scan of the held bytes and the piece hands out no frame, else its first frame.
-pub rtcm-answers-first : (a : List ℕ) (n : ℕ) (p o : List ℕ) → Fits a n p o → AnswersFirst rtcm a n p o rtcm-lawful (framesOf (scan (decide rtcm) (take n a ++ p) .items)) (feedOf rtcm a n p o)
-rtcm-answers-first a n p o f = answers-first rtcm a n p o rtcm-lawful f
+pub rtcm-answers-first : (a : List ℕ) (x : Scanner) (p o : List ℕ) → Fits a x p o
+    → AnswersFirst rtcm a x p o rtcm-lawful (framesOf (scan (decide rtcm) (take (x .count) a ++ p) .items)) (feedOf rtcm a x p o)
+rtcm-answers-first a x p o f = answers-first rtcm a x p o rtcm-lawful f
 
 -- After More fewer than 1,029 bytes are held.
-pub rtcm-held-after-more : (a : List ℕ) (n : ℕ) (p o : List ℕ) (t s m : ℕ) (b q : List ℕ) → feedOf rtcm a n p o ≡ outcome (Accepted (More t s m)) (b, q) → m < 1029
-rtcm-held-after-more a n p o t s m b q e = is-more rtcm a n p o rtcm-lawful t s m b q e .within
+pub rtcm-held-after-more : (a : List ℕ) (x : Scanner) (p o : List ℕ) (t s : ℕ) (y : Scanner) (b q : List ℕ) → feedOf rtcm a x p o ≡ outcome (Accepted (More t s y)) (b, q) → y .count < 1029
+rtcm-held-after-more a x p o t s y b q e = is-more rtcm a x p o rtcm-lawful t s y b q e .within
 
 -- ---- pieces, each offered until More
 
--- DEMAND 3. From a fresh scanner, pieces that are each offered until More hand out the frames of the scan of the pieces joined, skip as many bytes, and hold the same, which the held count counts.
-pub rtcm-demand : {a b : List ℕ} {s m : ℕ} {ps fs : List (List ℕ)} → Offers rtcm a 0 ps fs s b m → Scans rtcm (flatten ps) fs s (take m b) × (length (take m b) ≡ m)
+-- DEMAND 3. From a fresh scanner, pieces that are each offered until More hand out the frames of the scan of the pieces joined, each at its place in the joined stream, skip as many bytes, and hold the same, which the scanner counts.
+pub rtcm-demand : {a b : List ℕ} {mode s : ℕ} {y : Scanner} {ps : List (List ℕ)} {fs : List (Handed Kind)} → Offers rtcm a (fresh mode) ps fs s b y
+    → Scans rtcm 0 (flatten ps) fs s (take (y .count) b) × (length (take (y .count) b) ≡ y .count) × (y .taken ≡ length (flatten ps)) × (y .mode ≡ mode)
 rtcm-demand = demand rtcm rtcm-lawful
 
--- Two cuts of one stream give the same frames, skipped total, held count and held bytes.
-pub rtcm-any-cut : {a b c e : List ℕ} {s u m v : ℕ} {ps qs fs gs : List (List ℕ)} → Offers rtcm a 0 ps fs s b m → Offers rtcm c 0 qs gs u e v → flatten ps ≡ flatten qs
-    → (fs ≡ gs) × (s ≡ u) × (m ≡ v) × (take m b ≡ take v e)
+-- Two cuts of one stream give the same frames and places, skipped total, scanner and held bytes.
+pub rtcm-any-cut : {a b c e : List ℕ} {mode s u : ℕ} {y z : Scanner} {ps qs : List (List ℕ)} {fs gs : List (Handed Kind)}
+    → Offers rtcm a (fresh mode) ps fs s b y → Offers rtcm c (fresh mode) qs gs u e z → flatten ps ≡ flatten qs
+    → (fs ≡ gs) × (s ≡ u) × (y ≡ z) × (take (y .count) b ≡ take (z .count) e)
 rtcm-any-cut = any-cut rtcm rtcm-lawful
 
--- From any one state, feeding A and then B is feeding A ++ B.
-pub rtcm-two-as-one : {a b c d e A B : List ℕ} {n m v k x s u w : ℕ} {fs gs hs : List (List ℕ)}
-    → Offered rtcm a n A fs s b m → Offered rtcm b m B gs u c v → Offered rtcm d k (A ++ B) hs w e x → take k d ≡ take n a
-    → (hs ≡ fs ++ gs) × (w ≡ s + u) × (x ≡ v) × (take x e ≡ take v c)
+-- From any one scanner and held bytes, feeding A and then B is feeding A ++ B.
+pub rtcm-two-as-one : {a b c d e A B : List ℕ} {x y z w : Scanner} {s u v : ℕ} {fs gs hs : List (Handed Kind)}
+    → Offered rtcm a x A fs s b y → Offered rtcm b y B gs u c z → Offered rtcm d x (A ++ B) hs v e w → take (x .count) d ≡ take (x .count) a
+    → (hs ≡ fs ++ gs) × (v ≡ s + u) × (w ≡ z) × (take (w .count) e ≡ take (z .count) c)
 rtcm-two-as-one = two-as-one rtcm rtcm-lawful
 
--- Any list of pieces can be offered, each until More, with any output of room enough.
-pub rtcm-offers : (o : List ℕ) → 1029 ≤ length o → (ps : List (List ℕ)) → Pieces ps → (a : List ℕ) (n : ℕ) → length a ≡ 1029 → n ≤ 1029
-    → (fs : List (List ℕ)) × (s : ℕ) × (b : List ℕ) × (m : ℕ) × Offers rtcm a n ps fs s b m
+-- Any list of pieces can be offered, each until More, with any output of room enough, if the stream stays within 2^48 bytes.
+pub rtcm-offers : (o : List ℕ) → 1029 ≤ length o → (ps : List (List ℕ)) → Pieces ps → (a : List ℕ) (x : Scanner) → Feedable rtcm rtcm-lawful a x → x .taken + length (flatten ps) ≤ 2 ^ 48
+    → (fs : List (Handed Kind)) × (s : ℕ) × (b : List ℕ) × (y : Scanner) × Offers rtcm a x ps fs s b y
 rtcm-offers = offers rtcm rtcm-lawful
 
 -- And no run goes on for ever: calls one after the other that each hand out a frame, whatever output each is lent, are no more than the items of the scan.
-pub rtcm-chain-ends : {a p : List ℕ} {n k : ℕ} → Chain rtcm a n p k → k ≤ toCome rtcm a n p
+pub rtcm-chain-ends : {a p : List ℕ} {x : Scanner} {n : ℕ} → Chain rtcm a x p n → n ≤ toCome rtcm a x p
 rtcm-chain-ends = chain-ends rtcm rtcm-lawful
 
 -- ---- any accepted calls from fresh
 
 -- THE SUM. Bytes taken are the bytes in frames, plus skipped, plus held; skipped is the number of places before the held bytes that the scan of all that was taken skips.
-pub rtcm-sum : {s a : List ℕ} {fs : List (List ℕ)} {k n : ℕ} → Calls rtcm s fs k a n
-    → (length s ≡ framed fs + k + n) × (skipsBefore (length s - n) (placed 0 (scan (decide rtcm) s .items)) ≡ k)
+pub rtcm-sum : {s a : List ℕ} {fs : List (Handed Kind)} {n : ℕ} {x : Scanner} → Calls rtcm s fs n a x
+    → (length s ≡ framed fs + n + x .count) × (skipsBefore (length s - x .count) (placed 0 (scan (decide rtcm) s .items)) ≡ n)
 rtcm-sum c = (sum rtcm rtcm-lawful c, skipped-places rtcm rtcm-lawful c)

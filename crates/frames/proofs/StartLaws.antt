@@ -47,6 +47,16 @@ module _ (s : List ℕ) where
       go false u x =
           rtcm-starts (eqb (getD s 0 0) 0xD3) (eqb (ownSum s) (sentSum s)) n (dataLength s + 6) (BadCheck (sentSum s) (ownSum s)) NotD3 k refl x
 
+  kind-if : (b : Bool) (k : Kind) (n : ℕ) → cond b rtcm both .verdict s ≡ Take k n → getD s 0 0 ≡ startOf k
+  unfolding rtcm
+  kind-if true k n e =
+      rtcm-starts (eqb (getD s 0 0) 0xD3) (eqb (ownSum s) (sentSum s)) n (dataLength s + 6) (BadCheck (sentSum s) (ownSum s)) NotD3 k refl e
+  kind-if false k n e = kind-starts k n e
+
+  -- in every mode
+  pub mode-kind : (mode : ℕ) (k : Kind) (n : ℕ) → framingOf mode .verdict s ≡ Take k n → getD s 0 0 ≡ startOf k
+  mode-kind mode k n e = kind-if (eqb mode 0) k n e
+
   -- A BYTE that is neither B5 nor D3 is skipped by itself.
   pub no-start : (getD s 0 0 ≡ 0xB5 → ⊥) → (getD s 0 0 ≡ 0xD3 → ⊥) → (both .need s ≡ 1) × (both .verdict s ≡ Skip NotD3)
   unfolding either rtcm

@@ -12,10 +12,11 @@ use Rattle.bits.proofs.OutcomeLaws.{only-outcome}
 use Rattle.bits.proofs.ToldLaws.{found-again}
 use Rattle.frames.specs.Frame.{Whole}
 use Rattle.frames.specs.Call as call
-use Rattle.frames.specs.Call.{FedAnswer, FedOutcome}
+use Rattle.frames.specs.Call.{Scanner, FedAnswer, FedOutcome}
+use Rattle.frames.specs.Rtcm.{Kind, Rtcm, Ubx}
 use Rattle.frames.specs.Walk as walk
 use Rattle.frames.specs.Walk.{Place}
-use Rattle.frames.specs.Answers.{toldChecked, toldFramed, toldNext, toldFed}
+use Rattle.frames.specs.Answers.{toldChecked, toldFramed, toldNext, known, toldFed}
 use Rattle.frames.specs.declared.frame.Number.{Number}
 use Rattle.frames.specs.declared.frame.Number.the-variants as N
 use Rattle.frames.specs.declared.frame.Checked.{Checked}
@@ -24,6 +25,9 @@ use Rattle.frames.specs.declared.frame.Framed.{Framed}
 use Rattle.frames.specs.declared.frame.Framed.the-variants as F
 use Rattle.frames.specs.declared.scan.Next.{Next}
 use Rattle.frames.specs.declared.scan.Next.the-variants as X
+use Rattle.frames.specs.declared.scanner.Scanner as code
+use Rattle.frames.specs.declared.scanner.Kind as kinds
+use Rattle.frames.specs.declared.scanner.Kind.the-variants as Q
 use Rattle.frames.specs.declared.scanner.Fed.{Fed}
 use Rattle.frames.specs.declared.scanner.Fed.the-variants as D
 
@@ -84,15 +88,24 @@ next-one-to-one = found-again toldNext next next-again
 
 -- ---- the scanner
 
-fed : Told FedAnswer → Fed
-fed (Accepted (call.More t s h)) = D.More t s h
-fed (Accepted (call.Frame l t s h)) = D.Frame l t s h
+-- the scanner of the code, and the kind
+scanner : Scanner → code.Scanner
+scanner x = record { count = x .count; taken = x .taken; mode = x .mode }
+
+kind : Kind → kinds.Kind
+kind Rtcm = Q.Rtcm
+kind Ubx = Q.Ubx
+
+fed : Told (FedAnswer Kind) → Fed
+fed (Accepted (call.More t s x)) = D.More t s (scanner x)
+fed (Accepted (call.Frame l t s i k x)) = D.Frame l t s i (kind k) (scanner x)
 fed (Refused n carried) = cond (eqb n 9) D.Size (cond (eqb n 11) D.State (D.Room (getD carried 0 0)))
 
 fed-again : (x : Fed) → fed (toldFed x) ≡ x
-unfolding fed
-fed-again (D.More t s h) = refl
-fed-again (D.Frame l t s h) = refl
+unfolding fed scanner kind
+fed-again (D.More t s x) = refl
+fed-again (D.Frame l t s i Q.Rtcm x) = refl
+fed-again (D.Frame l t s i Q.Ubx x) = refl
 fed-again D.Size = refl
 fed-again D.State = refl
 fed-again (D.Room n) = refl
@@ -101,5 +114,10 @@ pub fed-one-to-one : OneToOne toldFed
 fed-one-to-one = found-again toldFed fed fed-again
 
 -- and the held areas and outputs that two runs leave are equal too
-pub only-fed : (d : FedOutcome) {x y : Fed} {s t : List ℕ × List ℕ} → outcome (toldFed x) s ≡ d → outcome (toldFed y) t ≡ d → (x ≡ y) × (s ≡ t)
+pub only-fed : (d : FedOutcome Kind) {x y : Fed} {s t : List ℕ × List ℕ} → outcome (toldFed x) s ≡ d → outcome (toldFed y) t ≡ d → (x ≡ y) × (s ≡ t)
 only-fed d = only-outcome toldFed fed-one-to-one d
+
+-- two scanners that know the same are the same
+pub only-known : (d : Scanner) {x y : code.Scanner} → known x ≡ d → known y ≡ d → x ≡ y
+unfolding scanner
+only-known d {x} {y} e f = ap scanner (e ∙ sym f)

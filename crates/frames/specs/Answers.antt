@@ -4,7 +4,8 @@ use Prim.Native.Nat.{ℕ}
 use Rattle.bits.specs.Told.{Told, Accepted, size, room, noPreamble, badCheck, incomplete, state}
 use Rattle.frames.specs.Frame.{Whole}
 use Rattle.frames.specs.Call as call
-use Rattle.frames.specs.Call.{FedAnswer}
+use Rattle.frames.specs.Call.{Scanner, FedAnswer}
+use Rattle.frames.specs.Rtcm.{Kind, Rtcm, Ubx}
 use Rattle.frames.specs.Walk as walk
 use Rattle.frames.specs.Walk.{Place}
 use Rattle.frames.specs.declared.frame.Number.{Number}
@@ -15,6 +16,9 @@ use Rattle.frames.specs.declared.frame.Framed.{Framed}
 use Rattle.frames.specs.declared.frame.Framed.the-variants as F
 use Rattle.frames.specs.declared.scan.Next.{Next}
 use Rattle.frames.specs.declared.scan.Next.the-variants as X
+use Rattle.frames.specs.declared.scanner.Scanner as code
+use Rattle.frames.specs.declared.scanner.Kind as kinds
+use Rattle.frames.specs.declared.scanner.Kind.the-variants as Q
 use Rattle.frames.specs.declared.scanner.Fed.{Fed}
 use Rattle.frames.specs.declared.scanner.Fed.the-variants as D
 
@@ -41,10 +45,19 @@ abbrev pub toldNext : Next → Told Place
 toldNext (X.Frame p l) = Accepted (walk.Frame p l)
 toldNext (X.Held p) = Accepted (walk.Held p)
 
+-- what a scanner of the code knows
+abbrev pub known : code.Scanner → Scanner
+known x = record { count = x .count; taken = x .taken; mode = x .mode }
+
+-- the kind of a frame
+abbrev pub toldKind : kinds.Kind → Kind
+toldKind Q.Rtcm = Rtcm
+toldKind Q.Ubx = Ubx
+
 -- a call of the scanner: More or a frame, or Size, State, Room with 1,029
-abbrev pub toldFed : Fed → Told FedAnswer
-toldFed (D.More t s h) = Accepted (call.More t s h)
-toldFed (D.Frame l t s h) = Accepted (call.Frame l t s h)
+abbrev pub toldFed : Fed → Told (FedAnswer Kind)
+toldFed (D.More t s x) = Accepted (call.More t s (known x))
+toldFed (D.Frame l t s i k x) = Accepted (call.Frame l t s i (toldKind k) (known x))
 toldFed D.Size = size
 toldFed D.State = state
 toldFed (D.Room n) = room n

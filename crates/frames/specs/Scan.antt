@@ -63,10 +63,22 @@ framesOf [] = []
 framesOf (Skipped w x ∷ is) = framesOf is
 framesOf (Framed k f ∷ is) = f ∷ framesOf is
 
--- how many bytes are in the frames
-abbrev pub framed : List (List ℕ) → ℕ
+-- a frame that is handed out: the stream place where it starts, its kind and its bytes
+pub record Handed (K : Type 0) : Type 0 where
+  pub place : ℕ
+  pub kind : K
+  pub bytes : List ℕ
+
+-- the frames of items of which the first stands at place n
+abbrev pub handed : {W K : Type 0} → ℕ → List (Item W K) → List (Handed K)
+handed n [] = []
+handed n (Skipped w x ∷ is) = handed (n + 1) is
+handed n (Framed k f ∷ is) = record { place = n; kind = k; bytes = f } ∷ handed (n + length f) is
+
+-- how many bytes are in frames
+abbrev pub framed : {K : Type 0} → List (Handed K) → ℕ
 framed [] = 0
-framed (f ∷ fs) = length f + framed fs
+framed (f ∷ fs) = length (f .bytes) + framed fs
 
 -- how many bytes are skipped
 abbrev pub skippedOf : {W K : Type 0} → List (Item W K) → ℕ

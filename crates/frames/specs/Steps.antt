@@ -12,7 +12,8 @@ use Rattle.frames.specs.Scan.{Decision, Skip, Take, Wait}
 use Rattle.frames.specs.Framing.{Framing, decide}
 use Rattle.frames.specs.Feed as fed
 use Rattle.frames.specs.Call as call
-use Rattle.frames.specs.Call.{FedOutcome}
+use Rattle.frames.specs.Call.{Scanner, heldFrom, onwards, FedOutcome}
+use Rattle.frames.specs.Rtcm.{Kind, Rtcm, Ubx}
 use Rattle.frames.specs.declared.scan.Seen.{Seen}
 use Rattle.frames.specs.declared.scan.Seen.the-variants.{Incomplete, NotValid, Good}
 use Rattle.frames.specs.declared.scan.Sight.{Sight}
@@ -60,8 +61,16 @@ abbrev pub Movable : (area n m : ℕ) → Sight → Type 0
 Movable area n m (More i) = (i ≤ n + m) × (n + m ≤ i + area)
 Movable area n m (Frame i l t) = (t ≤ m) × (i + l ≤ n + t) × (n + t ≤ i + area)
 
--- what a search of the first n bytes of the area a with the piece p behind them leads to: what is left is held, and a frame goes to the front of the output o
-abbrev pub moved : List ℕ → ℕ → List ℕ → List ℕ → Sight → FedOutcome
-moved a n p o (More i) = outcome (Accepted (call.More (length p) i (n + length p - i))) (onto (drop i (take n a ++ p)) a, o)
-moved a n p o (Frame i l t) =
-    outcome (Accepted (call.Frame l t i (n + t - (i + l)))) (onto (drop (i + l) (take n a ++ take t p)) a, onto (take l (drop i (take n a ++ take t p))) o)
+-- the kind of a frame, by its first byte
+abbrev pub kindAt : ℕ → Kind
+kindAt x = cond (eqb x 0xB5) Ubx Rtcm
+
+-- a frame of l bytes behind i skipped, with t bytes taken: the output is q, and the m bytes g are held
+abbrev pub movedFrame : List ℕ → Scanner → ℕ → ℕ → ℕ → List ℕ → List ℕ → ℕ → FedOutcome Kind
+movedFrame a x i l t q g m = outcome (Accepted (call.Frame l t i (heldFrom x + i) (kindAt (getD q 0 0)) (onwards x t m))) (onto g a, q)
+
+-- what a search of the bytes held in the area a with the piece p behind them leads to: what is left is held, and a frame goes to the front of the output o
+abbrev pub moved : List ℕ → Scanner → List ℕ → List ℕ → Sight → FedOutcome Kind
+moved a x p o (More i) =
+    outcome (Accepted (call.More (length p) i (onwards x (length p) (x .count + length p - i)))) (onto (drop i (take (x .count) a ++ p)) a, o)
+moved a x p o (Frame i l t) = movedFrame a x i l t (onto (take l (drop i (take (x .count) a ++ take t p))) o) (drop (i + l) (take (x .count) a ++ take t p)) (x .count + t - (i + l))

@@ -5,26 +5,42 @@ ghost use Prim.Native.Nat.{_+_, _-_, _^_, _≤_, _<_};
 ghost use lib.ListN.{length, take, drop};
 ghost use Rattle.bits.specs.Onto.{onto};
 ghost use Rattle.bits.specs.Outcome.{outcome};
-ghost use Rattle.frames.specs.Rtcm.{rtcm};
-ghost use Rattle.frames.specs.Call.{feedOf};
-ghost use Rattle.frames.specs.Answers.{toldFed};
-ghost use Rattle.frames.specs.Steps.{moved, Movable};
+ghost use Rattle.frames.specs.Modes.{framingOf};
+ghost use Rattle.frames.specs.Call.{fresh, afresh, onwards, feedOf};
+ghost use Rattle.frames.specs.Answers.{known, toldKind, toldFed};
+ghost use Rattle.frames.specs.Steps.{kindAt, moved, Movable};
 use crate::frame;
 use crate::scan;
 
-// What a call answers: More, or a frame at the front of the output, with the bytes taken of the piece and the bytes
-// skipped in this call, and the held count now; or a refusal.
+// What a scanner knows beside the bytes it holds: how many they are, how many bytes it took since it was fresh, and what
+// it was opened for: 0 is RTCM only, 1 is RTCM and UBX.
+pub struct Scanner {
+    pub count: usize,
+    pub taken: u64,
+    pub mode: u32,
+}
+
+// The kinds of frames.
+pub enum Kind {
+    Rtcm,
+    Ubx,
+}
+
+// What a call answers: More, or a frame at the front of the output with its stream place and its kind; the bytes taken
+// of the piece and the bytes skipped in this call, and the scanner from now on; or a refusal.
 pub enum Fed {
     More {
         taken: usize,
         skipped: usize,
-        held: usize,
+        scanner: Scanner,
     },
     Frame {
         length: usize,
         taken: usize,
         skipped: usize,
-        held: usize,
+        place: u64,
+        kind: Kind,
+        scanner: Scanner,
     },
     Size,
     State,
@@ -32,61 +48,122 @@ pub enum Fed {
     Room(usize),
 }
 
-// The held count of a fresh scanner.
-pub fn fresh() -> usize
-    ensures { λ r. ⌜ r ≡ 0 ⌝ }
+// A fresh scanner that is opened for a mode.
+pub fn fresh(mode: u32) -> Scanner
+    ensures { λ r. ⌜ known r ≡ fresh mode ⌝ }
 {
-    0
+    Scanner {
+        count: 0,
+        taken: 0,
+        mode,
+    }
 }
 
-// Feeds a piece to the scanner whose held bytes are the first `count` of the area `held`. What a call does not take of
-// the piece is to be offered again, until the answer is More.
-pub fn feed(held: &mut [u8], count: usize, piece: &[u8], out: &mut [u8]) -> Fed
-    ensures { λ r. ⌜ outcome (toldFed r) (now (held .exit), now (out .exit)) ≡ feedOf rtcm (now (held .entry)) count (now (piece .entry)) (now (out .entry)) ⌝ }
+// The scanner made fresh again: it holds nothing, its places start at 0, and it is opened for the same.
+pub fn reset(scanner: Scanner) -> Scanner
+    ensures { λ r. ⌜ known r ≡ afresh (known scanner) ⌝ }
+{
+    let start: u64 = 0;
+    Scanner {
+        count: 0,
+        taken: start,
+        mode: scanner.mode,
+    }
+}
+
+// Feeds a piece to a scanner, whose held bytes are the first of the area `held`. What a call does not take of the piece is
+// to be offered again, until the answer is More.
+pub fn feed(held: &mut [u8], scanner: Scanner, piece: &[u8], out: &mut [u8]) -> Fed
+    ensures { λ r. ⌜ outcome (toldFed r) (now (held .exit), now (out .exit)) ≡ feedOf (framingOf (scanner .mode)) (now (held .entry)) (known scanner) (now (piece .entry)) (now (out .entry)) ⌝ }
 {
     if held.len() != 1029 {
         return Fed::Size;
     }
-    if 1029 < count {
+    if 1029 < scanner.count {
+        return Fed::State;
+    }
+    if scanner.taken < scanner.count as u64 {
+        return Fed::State;
+    }
+    if 0x1_0000_0000_0000 < scanner.taken {
+        return Fed::State;
+    }
+    if 1 < scanner.mode {
         return Fed::State;
     }
     if 65536 < piece.len() {
         return Fed::Size;
     }
+    if 0x1_0000_0000_0000 < scanner.taken + piece.len() as u64 {
+        return Fed::Size;
+    }
     if out.len() < 1029 {
         return Fed::Room(1029);
     }
-    let found = scan::look(&held[0..count], piece, 0);
-    carry_out(held, count, piece, out, found)
+    let count = scanner.count;
+    let found = scan::look(&held[0..count], piece, scanner.mode);
+    carry_out(held, scanner, piece, out, found)
 }
 
 // Does what a search found: what stands behind the bytes to skip is held; or the frame there is handed out, and what
 // stands behind it is held.
-fn carry_out(held: &mut [u8], count: usize, piece: &[u8], out: &mut [u8], found: scan::Sight) -> Fed
-    requires { ⌜ (count ≤ length (now held)) × (length (now held) ≤ length (now out)) × (count + length (now piece) < 2 ^ 64) × Movable (length (now held)) count (length (now piece)) found ⌝ }
-    ensures { λ r. ⌜ outcome (toldFed r) (now (held .exit), now (out .exit)) ≡ moved (now (held .entry)) count (now (piece .entry)) (now (out .entry)) found ⌝ }
+fn carry_out(
+    held: &mut [u8],
+    scanner: Scanner,
+    piece: &[u8],
+    out: &mut [u8],
+    found: scan::Sight,
+) -> Fed
+    requires { ⌜ (scanner .count ≤ length (now held)) × (length (now held) ≤ length (now out)) × (1 ≤ length (now out)) × (scanner .count ≤ scanner .taken) × (scanner .taken + length (now piece) < 2 ^ 64) × Movable (length (now held)) (scanner .count) (length (now piece)) found ⌝ }
+    ensures { λ r. ⌜ outcome (toldFed r) (now (held .exit), now (out .exit)) ≡ moved (now (held .entry)) (known scanner) (now (piece .entry)) (now (out .entry)) found ⌝ }
 {
+    let count = scanner.count;
     match found {
         scan::Sight::More(i) => {
             let n = slide(held, count, piece, i);
             Fed::More {
                 taken: piece.len(),
                 skipped: i,
-                held: n,
+                scanner: onwards(scanner, piece.len(), n),
             }
         }
         scan::Sight::Frame(skipped, length, taken) => {
             let looked = &piece[0..taken];
             gather(out, &held[0..count], looked, skipped, length);
             let n = slide(held, count, looked, skipped + length);
+            let place = scanner.taken - count as u64 + skipped as u64;
             Fed::Frame {
                 length,
                 taken,
                 skipped,
-                held: n,
+                place,
+                kind: kind_of(out[0]),
+                scanner: onwards(scanner, taken, n),
             }
         }
     }
+}
+
+// The scanner once so many bytes more were taken and so many are held.
+fn onwards(scanner: Scanner, taken: usize, count: usize) -> Scanner
+    requires { ⌜ scanner .taken + taken < 2 ^ 64 ⌝ }
+    ensures { λ r. ⌜ known r ≡ onwards (known scanner) taken count ⌝ }
+{
+    Scanner {
+        count,
+        taken: scanner.taken + taken as u64,
+        mode: scanner.mode,
+    }
+}
+
+// The kind of a frame, by its first byte.
+fn kind_of(first: u8) -> Kind
+    ensures { λ r. ⌜ toldKind r ≡ kindAt first ⌝ }
+{
+    if first == 0xB5 {
+        return Kind::Ubx;
+    }
+    Kind::Rtcm
 }
 
 // Writes n bytes from place i on, of the held bytes with the piece behind them, to the front of the output.

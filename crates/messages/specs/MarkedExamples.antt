@@ -12,8 +12,8 @@ use Rattle.bits.specs.Crc.{crc}
 use Rattle.frames.specs.Scan.{scan, framesOf, skippedOf}
 use Rattle.frames.specs.Framing.{decide}
 use Rattle.frames.specs.Frame.{Whole, check}
-use Rattle.frames.specs.Rtcm.{rtcm}
-use Rattle.frames.specs.Call.{FedAnswer, More, feedOf}
+use Rattle.frames.specs.Rtcm.{Kind, rtcm}
+use Rattle.frames.specs.Call.{fresh, FedAnswer, More, feedOf}
 use Rattle.messages.specs.Write1059.{write1059}
 use Rattle.messages.specs.Write1230.{write1230}
 
@@ -26,7 +26,7 @@ pub data Example : Type 0 where
   -- the whole-stream scan of bytes: how many are skipped, the frames, the bytes held
   Scan : List ℕ → ℕ → List (List ℕ) → List ℕ → Example
   -- the answer of a fresh scanner to a piece
-  Feed : List ℕ → Told FedAnswer → Example
+  Feed : List ℕ → Told (FedAnswer Kind) → Example
   -- the field of some bytes, by its start and width: unsigned, two's complement, sign-magnitude
   Fields : List ℕ → ℕ → ℕ → Told (Reading ℕ) → Told (Reading ℤ) → Told (Reading ℤ) → Example
   -- the answer to writing a number in two's complement, by its width, at the start of eight zero bytes
@@ -44,7 +44,7 @@ abbrev pub Given : Example → Type 0
 Given (Checksum s c) = crc s ≡ c
 Given (Check s t) = check s ≡ t
 Given (Scan s n fs h) = (skippedOf (scan (decide rtcm) s .items) ≡ n) × (framesOf (scan (decide rtcm) s .items) ≡ fs) × (scan (decide rtcm) s .held ≡ h)
-Given (Feed s t) = feedOf rtcm (zeros 1029) 0 s (zeros 1029) .answer ≡ t
+Given (Feed s t) = feedOf rtcm (zeros 1029) (fresh 0) s (zeros 1029) .answer ≡ t
 Given (Fields s p w u z m) = (readUnsigned s p w ≡ u) × (readTwos s p w ≡ z) × (readSignmag s p w ≡ m)
 Given (Twos w z t) = writeTwos (zeros 8) 0 w z .answer ≡ t
 Given (Write1059 s sats gs zs w) = write1059 1 s 0 sats gs zs ≡ w
@@ -70,7 +70,7 @@ examples =
     -- 4. D3 00 00 D3 00 00 47 EA 4B: 3 skipped, one frame.
     Scan (0xD3 ∷ 0x00 ∷ 0x00 ∷ empty) 3 (empty ∷ []) [] ∷
     -- 5. D3 D3 00 00 47 EA 4B: More, 7 held.
-    Feed (0xD3 ∷ empty) (Accepted (More 7 0 7)) ∷
+    Feed (0xD3 ∷ empty) (Accepted (More 7 0 (record { count = 7; taken = 7; mode = 0 }))) ∷
     -- 6. A5, start 2, width 3: 4; two's complement -4; sign-magnitude 0.
     Fields (0xA5 ∷ []) 2 3 (Accepted (reading 4 5)) (Accepted (reading (negsuc 3) 5)) (Accepted (reading (pos 0) 5)) ∷
     -- 7. Width 14: -8192 and 8191 fit, 8192 and 10000 are Range.

@@ -1,7 +1,7 @@
 -- From what a call found and what it was told to its statement. Assumes nothing.
 use mathlib.Core.Path.{_≡_, refl, sym, ap, _∙_}
 use mathlib.Core.Bool.{Bool, true, false, cond}
-use mathlib.Core.List.{List}
+use mathlib.Core.List.{List, [], _∷_}
 use Prim.Native.Nat.{ℕ}
 use lib.ListN.{length}
 use lib.IntN.{ℤ}
@@ -9,12 +9,13 @@ use lib.Dec.{eqb}
 use borrow.Author.Tests.{eq-eqb, ne-eqb}
 use Rattle.bits.specs.Told.{Told, Accepted}
 use Rattle.bits.specs.Outcome.{Outcome, outcome}
-use Rattle.frames.specs.Call.{FedAnswer, FedOutcome}
+use Rattle.frames.specs.Rtcm.{Kind}
+use Rattle.frames.specs.Call.{Scanner, FedAnswer, Frame, FedOutcome}
 use Rattle.messages.specs.Records.{Counted}
 use Rattle.messages.specs.Read1059.{Read1059, outcome1059}
 use Rattle.messages.specs.Read1230.{Read1230, outcome1230}
 use Rattle.peerivolt.specs.Extra.{Numbers, numbers, inNumbers, returned, answered, reads}
-use Rattle.peerivolt.specs.Scanner.{fedValues, feeds}
+use Rattle.peerivolt.specs.Scanner.{kindNumber, fedValues, feeds}
 use Rattle.peerivolt.specs.Biases.{countedValues, reads1059, reads1230}
 
 -- an answer x of the code that is known to be y tells what y tells
@@ -54,19 +55,24 @@ found values e h q o = read values e h q (ap Accepted o)
 
 -- ---- a call of the scanner
 
+-- a frame's kind in its number
+pub kind-told : (l t s i n : ℕ) (k : Kind) (x : Scanner) → n ≡ kindNumber k
+    → numbers 0 (1 ∷ t ∷ s ∷ x .count ∷ l ∷ i ∷ x .taken ∷ n ∷ []) ≡ inNumbers fedValues (Accepted (Frame l t s i k x))
+kind-told l t s i n k x e = ap (λ n. numbers 0 (1 ∷ t ∷ s ∷ x .count ∷ l ∷ i ∷ x .taken ∷ n ∷ [])) e
+
 pub either : {A : Type 0} (b : Bool) {x y : A} → x ≡ y → x ≡ cond b y x
 either true e = e
 either false e = refl
 
-pub not-fed : (a o : List ℕ) (w : FedOutcome) (e : List ℕ) → (length e ≡ 8 → ⊥) → returned 9 e (a, o) ≡ feeds a o w e
+pub not-fed : (a o : List ℕ) (w : FedOutcome Kind) (e : List ℕ) → (length e ≡ 8 → ⊥) → returned 9 e (a, o) ≡ feeds a o w e
 unfolding feeds
 not-fed a o w e n = either (eqb (length a) 1029) (not-sized fedValues e (a, o) w n)
 
-pub not-held : (a o : List ℕ) (w : FedOutcome) (e : List ℕ) → (length a ≡ 1029 → ⊥) → returned 9 e (a, o) ≡ feeds a o w e
+pub not-held : (a o : List ℕ) (w : FedOutcome Kind) (e : List ℕ) → (length a ≡ 1029 → ⊥) → returned 9 e (a, o) ≡ feeds a o w e
 unfolding feeds
 not-held a o w e n = simp (ne-eqb (length a) 1029 n)
 
-pub fed : (a o : List ℕ) {told : Told FedAnswer} {a' o' : List ℕ} {w : FedOutcome} (e : List ℕ) {r : ℕ} {e' : List ℕ} → length a ≡ 1029
+pub fed : (a o : List ℕ) {told : Told (FedAnswer Kind)} {a' o' : List ℕ} {w : FedOutcome Kind} (e : List ℕ) {r : ℕ} {e' : List ℕ} → length a ≡ 1029
     → length e ≡ 8 → numbers r e' ≡ inNumbers fedValues told → outcome told (a', o') ≡ w → returned r e' (a', o') ≡ feeds a o w e
 unfolding feeds
 fed a o e k h q p =

@@ -13,7 +13,7 @@ use Rattle.bits.specs.Signed.{fitsUnsigned, fitsTwos, fitsSignmag, twosBits, si
 use Rattle.bits.proofs.OutcomeLaws.{Keeps}
 use Rattle.bits.proofs.WriteLaws as fields
 use Rattle.frames.specs.Frame.{writeFrame}
-use Rattle.frames.specs.Rtcm.{rtcm}
+use Rattle.frames.specs.Modes.{framingOf}
 use Rattle.frames.specs.Call.{feedOf}
 use Rattle.frames.proofs.WriteLaws as frame
 use Rattle.frames.proofs.CallLaws.{feed-keeps}
@@ -22,7 +22,7 @@ use Rattle.messages.specs.Write1230.{write1230}
 use Rattle.messages.proofs.KeepLaws.{refused-write-1059, refused-write-1230}
 use Rattle.peerivolt.specs.Extra.{inNumbers, Returned, returned, ifSized, answered}
 use Rattle.peerivolt.specs.Fields.{endValues}
-use Rattle.peerivolt.specs.Scanner.{fedValues, feeds}
+use Rattle.peerivolt.specs.Scanner.{scannerOf, fedValues, feeds}
 
 -- where d returns another number than 0, the areas are as they were before
 pub record RefusedKeeps {Areas : Type 0} (before : Areas) (d : Returned Areas) : Type 0 where
@@ -57,10 +57,12 @@ keeps-pv-field-write-signmag s p w z e = answered-keeps s endValues e (writeSign
 pub keeps-pv-frame-write : (d out e : List ℕ) → RefusedKeeps out (answered endValues e out (writeFrame d out))
 keeps-pv-frame-write d out e = answered-keeps out endValues e (writeFrame d out) (frame.write-keeps d out)
 
-pub keeps-pv-feed : (held : List ℕ) (count : ℕ) (piece out e : List ℕ) → RefusedKeeps (held, out) (feeds held out (feedOf rtcm held count piece out) e)
+pub keeps-pv-feed : (held : List ℕ) (count taken mode : ℕ) (piece out e : List ℕ)
+    → RefusedKeeps (held, out) (feeds held out (feedOf (framingOf mode) held (scannerOf count taken mode) piece out) e)
 unfolding feeds
-keeps-pv-feed held count piece out e =
-    sized-keeps (held, out) (eqb (length held) 1029) e _ (answered-keeps (held, out) fedValues e (feedOf rtcm held count piece out) (feed-keeps rtcm held count piece out))
+keeps-pv-feed held count taken mode piece out e =
+    let x = scannerOf count taken mode in
+    sized-keeps (held, out) (eqb (length held) 1029) e _ (answered-keeps (held, out) fedValues e (feedOf (framingOf mode) held x piece out) (feed-keeps (framingOf mode) held x piece out))
 
 pub keeps-pv-1059-write : (edition : ℕ) (s : List ℕ) (p : ℕ) (sats gs : List ℕ) (zs : List ℤ) (e : List ℕ) → RefusedKeeps s (answered endValues e s (write1059 edition s p sats gs zs))
 keeps-pv-1059-write edition s p sats gs zs e = answered-keeps s endValues e (write1059 edition s p sats gs zs) (refused-write-1059 s p edition sats gs zs)

@@ -7,7 +7,7 @@ use Rattle.bits.specs.Told.{Told, Accepted}
 use Rattle.bits.specs.Crc.{crc}
 use Rattle.bits.specs.Field.{readUnsigned, readTwos, readSignmag, writeUnsigned, writeTwos, writeSignmag}
 use Rattle.frames.specs.Frame.{check, writeFrame}
-use Rattle.frames.specs.Rtcm.{rtcm}
+use Rattle.frames.specs.Modes.{framingOf}
 use Rattle.frames.specs.Call.{feedOf}
 use Rattle.messages.specs.Read1059.{read1059}
 use Rattle.messages.specs.Read1230.{read1230}
@@ -31,7 +31,7 @@ use Rattle.peerivolt.specs.Message1001.{seenValues, measuredValues}
 use Rattle.peerivolt.specs.Extra.{Returned, returned, answered, reads}
 use Rattle.peerivolt.specs.Fields.{readingValues, signedValues, endValues}
 use Rattle.peerivolt.specs.Frames.{wholeValues}
-use Rattle.peerivolt.specs.Scanner.{feeds}
+use Rattle.peerivolt.specs.Scanner.{scannerOf, feeds}
 use Rattle.peerivolt.specs.Biases.{reads1059, reads1230}
 use Rattle.peerivolt.specs.Signals.{signalValues, numberValues, orderValues}
 
@@ -88,8 +88,9 @@ only-pv-settings-read s r x ns ps e = only-returned (readsSettings ns ps (readSe
 pub only-pv-settings-write : (d x : ℕ) (ns ps out e : List ℕ) → OneAnswer (answered endValues e out (writeSettings d x ns ps out))
 only-pv-settings-write d x ns ps out e = only-returned (answered endValues e out (writeSettings d x ns ps out))
 
-pub only-pv-feed : (held : List ℕ) (count : ℕ) (piece out e : List ℕ) → OneAnswer (feeds held out (feedOf rtcm held count piece out) e)
-only-pv-feed held count piece out e = only-returned (feeds held out (feedOf rtcm held count piece out) e)
+pub only-pv-feed : (held : List ℕ) (count taken mode : ℕ) (piece out e : List ℕ)
+    → OneAnswer (feeds held out (feedOf (framingOf mode) held (scannerOf count taken mode) piece out) e)
+only-pv-feed held count taken mode piece out e = only-returned (feeds held out (feedOf (framingOf mode) held (scannerOf count taken mode) piece out) e)
 
 pub only-pv-1059-read : (s : List ℕ) (p : ℕ) (sats gs : List ℕ) (zs : List ℤ) (e : List ℕ) → OneAnswer (reads1059 sats gs zs (read1059 s p sats gs zs) e)
 only-pv-1059-read s p sats gs zs e = only-returned (reads1059 sats gs zs (read1059 s p sats gs zs) e)

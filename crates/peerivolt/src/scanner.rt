@@ -1,27 +1,32 @@
 // The scanner.
 ghost use mathlib.Core.Path.{_≡_};
-ghost use Rattle.frames.specs.Rtcm.{rtcm};
+ghost use Rattle.frames.specs.Modes.{framingOf};
 ghost use Rattle.frames.specs.Call.{feedOf};
-ghost use Rattle.frames.specs.Answers.{toldFed};
+ghost use Rattle.frames.specs.Answers.{toldKind, toldFed};
 ghost use Rattle.peerivolt.specs.Extra.{returned, inNumbers};
 ghost use Rattle.peerivolt.specs.Answers.{replied};
-ghost use Rattle.peerivolt.specs.Scanner.{fedValues, feeds};
+ghost use Rattle.peerivolt.specs.Scanner.{scannerOf, kindNumber, fedValues, feeds};
 use crate::extra;
 use crate::extra::Reply;
 use frames::scanner;
 use frames::scanner::Fed;
+use frames::scanner::Kind;
+use frames::scanner::Scanner;
 
-// Feeds a piece to the scanner whose held bytes are the first `count` of the area `held`. Extra: 0 for More or 1 for a
-// frame, the bytes taken, the bytes skipped, the held count now, and the frame's length or 0.
+// Feeds a piece to the scanner whose held bytes are the first `count` of the area `held`, which took `taken` bytes since
+// it was fresh and was opened for a mode. Extra: 0 for More or 1 for a frame, the bytes taken and skipped in this call, the
+// held count now, the frame's length or 0, its stream place or 0, the bytes taken since fresh, now, and the frame's kind.
 #[no_mangle]
 pub extern "C" fn pv_feed(
     held: &mut [u8],
     count: usize,
+    taken: u64,
+    mode: u32,
     piece: &[u8],
     out: &mut [u8],
     extra: &mut [u64],
 ) -> u32
-    ensures { λ r. ⌜ returned r (now (extra .exit)) (now (held .exit), now (out .exit)) ≡ feeds (now (held .entry)) (now (out .entry)) (feedOf rtcm (now (held .entry)) count (now (piece .entry)) (now (out .entry))) (now (extra .entry)) ⌝ }
+    ensures { λ r. ⌜ returned r (now (extra .exit)) (now (held .exit), now (out .exit)) ≡ feeds (now (held .entry)) (now (out .entry)) (feedOf (framingOf mode) (now (held .entry)) (scannerOf count taken mode) (now (piece .entry)) (now (out .entry))) (now (extra .entry)) ⌝ }
 {
     if extra.len() != 8 {
         return 9;
@@ -29,7 +34,8 @@ pub extern "C" fn pv_feed(
     if held.len() != 1029 {
         return 9;
     }
-    extra::fill(fed(scanner::feed(held, count, piece, out)), extra)
+    let scanner = Scanner { count, taken, mode };
+    extra::fill(fed(scanner::feed(held, scanner, piece, out)), extra)
 }
 
 fn fed(answer: Fed) -> Reply
@@ -39,31 +45,51 @@ fn fed(answer: Fed) -> Reply
         Fed::More {
             taken,
             skipped,
-            held,
+            scanner,
         } => Reply {
             number: 0,
-            extra: [0, taken as u64, skipped as u64, held as u64, 0, 0, 0, 0],
+            extra: [
+                0,
+                taken as u64,
+                skipped as u64,
+                scanner.count as u64,
+                0,
+                0,
+                scanner.taken,
+                0,
+            ],
         },
         Fed::Frame {
             length,
             taken,
             skipped,
-            held,
+            place,
+            kind,
+            scanner,
         } => Reply {
             number: 0,
             extra: [
                 1,
                 taken as u64,
                 skipped as u64,
-                held as u64,
+                scanner.count as u64,
                 length as u64,
-                0,
-                0,
-                0,
+                place,
+                scanner.taken,
+                kind_number(kind),
             ],
         },
         Fed::Size => extra::bare(9),
         Fed::State => extra::bare(11),
         Fed::Room(n) => extra::with_one(8, n as u64),
+    }
+}
+
+fn kind_number(kind: Kind) -> u64
+    ensures { λ r. ⌜ r ≡ kindNumber (toldKind kind) ⌝ }
+{
+    match kind {
+        Kind::Rtcm => 0,
+        Kind::Ubx => 1,
     }
 }

@@ -2,6 +2,7 @@
 ghost use Prim.Native.Nat.{_+_, _-_, _≤_};
 ghost use mathlib.Core.Path.{_≡_};
 ghost use lib.ListN.{length};
+ghost use Rattle.frames.specs.Answers.{known};
 ghost use Rattle.reading.specs.Account.{Right, AllTaken, RightStep};
 use frames::scanner;
 use frames::scanner::Fed;
@@ -66,21 +67,34 @@ pub fn next(
 ) -> Step
     ensures { λ r. ⌜ (Right account → RightStep r) ⌝ }
 {
-    let count = account.held;
     let rest = part(piece, account.from, account.to);
-    match scanner::feed(held, count, rest, frame) {
+    match scanner::feed(held, holding(account.held), rest, frame) {
         Fed::Frame {
             length,
             taken,
             skipped,
-            held: n,
-        } => framed(account, length, taken, skipped, n),
+            place: _,
+            kind: _,
+            scanner,
+        } => framed(account, length, taken, skipped, scanner.count),
         Fed::More {
             taken: _,
             skipped,
-            held: n,
-        } => refill(fd, piece, passed(account, skipped, n)),
+            scanner,
+        } => refill(fd, piece, passed(account, skipped, scanner.count)),
         _ => Step::Failed(account),
+    }
+}
+
+// A scanner for RTCM that holds so many bytes. The account counts places itself, past 2^48 too, so that the scanner counts
+// from the first byte held.
+fn holding(count: usize) -> scanner::Scanner
+    ensures { λ r. ⌜ known r ≡ record { count = count; taken = count; mode = 0 } ⌝ }
+{
+    scanner::Scanner {
+        count,
+        taken: count as u64,
+        mode: 0,
     }
 }
 

@@ -1,9 +1,10 @@
--- The bytes are moved by the places found. Assumes nothing.
-use mathlib.Core.Path.{sym, ap, subst, _∙_}
+-- What the search found says what to move: the moves make the outcome. Assumes nothing.
+use mathlib.Core.Path.{refl, sym, ap, subst, _∙_}
 use Prim.Native.Nat.{ℕ}
 use native.Mathlib.Omega.{arith}
 use lib.ListN.{length}
-use Rattle.frames.specs.Steps.{Movable, moved}
+use Rattle.frames.specs.Answers.{known}
+use Rattle.frames.specs.Steps.{moved, Movable}
 use Rattle.frames.specs.declared.scan.Sight.the-variants.{Frame}
 use Rattle.frames.proofs.SightLaws.{moved-more, moved-frame}
 use borrow.Author.Needs.{needs}
@@ -18,8 +19,11 @@ module _ (c : tie.After-found2) where
   abbrev size : ℕ
   size = length (c .before .before .before .before .before .args .piece .now)
 
-  there : Movable area (c .before .before .before .before .before .args .count) size (Frame (c .found2 .given .0 .0) (c .found2 .given .0 .1 .0) (c .found2 .given .0 .1 .1 .0))
-  there = subst (Movable area (c .before .before .before .before .before .args .count) size) (c .found2 .given .1) (c .before .before .before .before .before .pre .3)
+  abbrev count : ℕ
+  count = c .before .before .before .before .before .args .scanner .count
+
+  there : Movable area count size (Frame (c .found2 .given .0 .0) (c .found2 .given .0 .1 .0) (c .found2 .given .0 .1 .1 .0))
+  there = subst (Movable area count size) (c .found2 .given .1) (c .before .before .before .before .before .pre .5)
 
 enum-known-found : tie.Need-enum-known-found
 enum-known-found c = search needs
@@ -27,8 +31,11 @@ enum-known-found c = search needs
 slide-requires : tie.Need-slide-requires
 slide-requires c κs =
     let x = c .before .before .before .before .before .before .before in
-    let k = subst (Movable _ _ _) (c .before .before .found .given .1) (x .pre .3) in
-    (x .pre .0, k .0, k .1, x .pre .2)
+    let k = subst (Movable _ _ _) (c .before .before .found .given .1) (x .pre .5) in
+    (x .pre .0, k .0, k .1, omega arith)
+
+onwards-requires : tie.Need-onwards-requires
+onwards-requires c κs = search needs
 
 enum-known-found-2 : tie.Need-enum-known-found-2
 enum-known-found-2 c = search needs
@@ -60,16 +67,31 @@ add-slide c = let k = there (c .before .before .before .before .before .before .
 slide-requires-2 : tie.Need-slide-requires-2
 slide-requires-2 c κs = let k = there (c .before .before .before .before .before .before .before .before .before) in (omega (arith, k), omega (arith, k), omega (arith, k), omega (arith, k))
 
+sub-place : tie.Need-sub-place
+sub-place c = search needs
+
+add-place : tie.Need-add-place
+add-place c = let k = there (c .before .before .before .before .before .before .before .before .before .before .before .before .before) in record { fits = omega (arith, k) }
+
+slice-read-kind-of : tie.Need-slice-read-kind-of
+slice-read-kind-of c = search needs
+
+kind-of-requires : tie.Need-kind-of-requires
+kind-of-requires c κs = search needs
+
+onwards-requires-2 : tie.Need-onwards-requires-2
+onwards-requires-2 c κs = let k = there (c .before .before .before .before .before .before .before .before .before .before .before .before .before .before .before) in omega (arith, k)
+
 same-length : tie.Need-same-length
 same-length c = search needs
 
 returns : tie.Need-returns
 returns c =
-    let a = c .before .before .before .before .before .before .before .before .before .before .args in
-    let f = c .before .before .before .before .before .found .given in
-    let u = c .before .before .slide .ensures in
-    moved-more (a .held .now) (a .count) (a .piece .now) (a .out .now) (f .0 .0) _ _ (u .0) (u .1)
-    ∙ ap (moved (a .held .now) (a .count) (a .piece .now) (a .out .now)) (sym (f .1))
+    let a = c .before .before .before .before .before .before .before .before .before .before .before .args in
+    let f = c .before .before .before .before .before .before .found .given in
+    let u = c .before .before .before .slide .ensures in
+    moved-more (a .held .now) (known (a .scanner)) (a .piece .now) (a .out .now) (f .0 .0) _ _ _ (u .0) (c .onwards .ensures) (u .1)
+    ∙ ap (moved (a .held .now) (known (a .scanner)) (a .piece .now) (a .out .now)) (sym (f .1))
 
 same-length-2 : tie.Need-same-length-2
 same-length-2 c = search needs
@@ -79,12 +101,12 @@ same-length-3 c = search needs
 
 returns-2 : tie.Need-returns-2
 returns-2 c =
-    let a = c .before .before .before .before .before .before .before .before .before .before .before .before .before .before .before .before .before .args in
-    let w = c .before .before .before .before .before .before .before .before .before .before .before .before in
+    let a = c .before .before .before .before .before .before .before .before .before .before .before .before .before .before .before .before .before .before .before .before .before .args in
+    let w = c .before .before .before .before .before .before .before .before .before .before .before .before .before .before .before .before in
     let f = w .found2 .given in
-    let u = c .before .before .slide2 .ensures in
-    moved-frame (a .held .now) (a .count) (a .piece .now) (a .out .now) (f .0 .0) (f .0 .1 .0) (f .0 .1 .1 .0) _ _ _ (there w .0) (u .0) (u .1) (c .before .before .before .before .before .before .gather .ensures)
-    ∙ ap (moved (a .held .now) (a .count) (a .piece .now) (a .out .now)) (sym (f .1))
+    let u = c .before .before .before .before .before .before .slide2 .ensures in
+    moved-frame (a .held .now) (known (a .scanner)) (a .piece .now) (a .out .now) (f .0 .0) (f .0 .1 .0) (f .0 .1 .1 .0) _ _ _ _ _ _ (there w .0) (u .0) refl (c .before .kind-of .ensures) (c .onwards2 .ensures) (u .1) (c .before .before .before .before .before .before .before .before .before .before .gather .ensures)
+    ∙ ap (moved (a .held .now) (known (a .scanner)) (a .piece .now) (a .out .now)) (sym (f .1))
 
 pub carry-out-spec : {M : Type 1} → statement M
 carry-out-spec =
@@ -92,6 +114,7 @@ carry-out-spec =
     (tie.spec
     enum-known-found
     slide-requires
+    onwards-requires
     enum-known-found-2
     sub-looked
     part-looked-start
@@ -102,6 +125,11 @@ carry-out-spec =
     gather-requires
     add-slide
     slide-requires-2
+    sub-place
+    add-place
+    slice-read-kind-of
+    kind-of-requires
+    onwards-requires-2
     same-length
     returns
     same-length-2

@@ -3,9 +3,9 @@ use mathlib.Core.Path.{sym, _∙_}
 use mathlib.Core.List.{List}
 use Prim.Native.Nat.{ℕ}
 use native.Mathlib.Omega.{arith}
-use Rattle.frames.specs.Rtcm.{rtcm}
-use Rattle.frames.proofs.RtcmLaws.{rtcm-lawful}
-use Rattle.frames.proofs.CallLaws.{Fits, wrong-area, wrong-count, long-piece, small-output}
+use Rattle.frames.specs.Call.{Scanner}
+use Rattle.frames.specs.Answers.{known}
+use Rattle.frames.proofs.CallLaws.{Fits, wrong-area, wrong-count, over-taken, over-limit, wrong-mode, long-piece, past-limit, small-output}
 use Rattle.frames.proofs.SightLaws.{found-movable, found-moved}
 use borrow.Author.Needs.{needs}
 use Rattle.frames.proofs.scanner.feed.Statement.{statement}
@@ -14,28 +14,49 @@ use Rattle.frames.proofs.scanner.feed.Tie as tie
 -- past the refusals the call is accepted
 module _ (c : tie.After-look) where
   abbrev area : List ℕ
-  area = c .before .before .before .before .before .before .before .before .before .before .args .held .now
+  area = c .before .before .before .before .before .before .before .before .before .before .before .before .before .before .before .before .before .before .before .args .held .now
+
+  abbrev scanner : Scanner
+  scanner = known (c .before .before .before .before .before .before .before .before .before .before .before .before .before .before .before .before .before .before .before .args .scanner)
+
+  abbrev mode : ℕ
+  mode = c .before .before .before .before .before .before .before .before .before .before .before .before .before .before .before .before .before .before .before .args .scanner .mode
 
   abbrev piece : List ℕ
-  piece = c .before .before .before .before .before .before .before .before .before .before .args .piece .now
+  piece = c .before .before .before .before .before .before .before .before .before .before .before .before .before .before .before .before .before .before .before .args .piece .now
 
   abbrev out : List ℕ
-  out = c .before .before .before .before .before .before .before .before .before .before .args .out .now
+  out = c .before .before .before .before .before .before .before .before .before .before .before .before .before .before .before .before .before .before .before .args .out .now
 
-  fits : Fits area (c .before .before .before .before .before .before .before .before .before .before .args .count) piece out
-  fits = record { area = omega arith; count = omega arith; piece = omega arith; output = omega arith }
+  fits : Fits area scanner piece out
+  fits = record { area = omega arith; count = omega arith; held = omega arith; taken = omega arith; mode = omega arith; piece = omega arith; limit = omega arith; output = omega arith }
 
 returns : tie.Need-returns
-returns c = sym (wrong-area rtcm _ _ _ _ (c .if1 .taken))
+returns c = sym (wrong-area _ _ _ _ _ (c .if1 .taken))
 
 returns-2 : tie.Need-returns-2
-returns-2 c = sym (wrong-count rtcm _ _ _ _ (omega arith) (omega arith))
+returns-2 c = sym (wrong-count _ _ _ _ _ (omega arith) (omega arith))
 
 returns-3 : tie.Need-returns-3
-returns-3 c = sym (long-piece rtcm _ _ _ _ (omega arith) (omega arith) (omega arith))
+returns-3 c = sym (over-taken _ _ _ _ _ (omega arith) (omega arith) (omega arith))
 
 returns-4 : tie.Need-returns-4
-returns-4 c = sym (small-output rtcm _ _ _ _ (omega arith) (omega arith) (omega arith) (omega arith))
+returns-4 c = sym (over-limit _ _ _ _ _ (omega arith) (omega arith) (omega arith) (omega arith))
+
+returns-5 : tie.Need-returns-5
+returns-5 c = sym (wrong-mode _ _ _ _ _ (omega arith) (omega arith) (omega arith) (omega arith) (omega arith))
+
+returns-6 : tie.Need-returns-6
+returns-6 c = sym (long-piece _ _ _ _ _ (omega arith) (omega arith) (omega arith) (omega arith) (omega arith) (omega arith))
+
+add-if7 : tie.Need-add-if7
+add-if7 c = search needs
+
+returns-7 : tie.Need-returns-7
+returns-7 c = sym (past-limit _ _ _ _ _ (omega arith) (omega arith) (omega arith) (omega arith) (omega arith) (omega arith) (omega arith))
+
+returns-8 : tie.Need-returns-8
+returns-8 c = sym (small-output _ _ _ _ _ (omega arith) (omega arith) (omega arith) (omega arith) (omega arith) (omega arith) (omega arith) (omega arith))
 
 sub-look : tie.Need-sub-look
 sub-look c = search needs
@@ -52,7 +73,7 @@ look-requires c κs = search needs
 carry-out-requires : tie.Need-carry-out-requires
 carry-out-requires c κs =
     let w = c .before .before in
-    (omega arith, omega arith, omega arith, found-movable rtcm rtcm-lawful _ _ _ _ (fits w) _ (w .look .ensures))
+    (omega arith, omega arith, omega arith, omega arith, omega arith, found-movable (mode w) (area w) (scanner w) (piece w) (out w) (fits w) _ (w .look .ensures))
 
 same-length : tie.Need-same-length
 same-length c = search needs
@@ -60,10 +81,10 @@ same-length c = search needs
 same-length-2 : tie.Need-same-length-2
 same-length-2 c = search needs
 
-returns-5 : tie.Need-returns-5
-returns-5 c =
+returns-9 : tie.Need-returns-9
+returns-9 c =
     let w = c .before .before .before .before .before .before .before in
-    c .before .before .before .before .carry-out .ensures ∙ found-moved rtcm rtcm-lawful _ _ _ _ (fits w) _ (w .look .ensures)
+    c .before .before .before .before .carry-out .ensures ∙ found-moved (mode w) (area w) (scanner w) (piece w) (out w) (fits w) _ (w .look .ensures)
 
 pub feed-spec : {M : Type 1} → statement M
 feed-spec =
@@ -73,6 +94,11 @@ feed-spec =
     returns-2
     returns-3
     returns-4
+    returns-5
+    returns-6
+    add-if7
+    returns-7
+    returns-8
     sub-look
     part-look-start
     part-look-end
@@ -80,4 +106,4 @@ feed-spec =
     carry-out-requires
     same-length
     same-length-2
-    returns-5)
+    returns-9)
