@@ -1,0 +1,1 @@
+// Closing a recording: the calls that hand out what can be salvaged of the bytes held at its end, as definitions and laws.
