@@ -4,6 +4,11 @@ use Rattle.crctable.proofs.RowLaws.{row, none-left}
 use Rattle.crctable.proofs.entry.Statement.{statement}
 use Rattle.crctable.proofs.entry.Tie as tie
 
+-- the arm that the edit `table_number` makes wrong has a name of its own
+returns-73 : tie.Need-returns-73
+unfolding table
+returns-73 c = row _ 72 (c .match .keys73)
+
 pub entry-spec : {M : Type 1} → statement M
 unfolding table
 entry-spec =
@@ -81,7 +86,7 @@ entry-spec =
     (λ c. row _ 69 (c .match .keys70))
     (λ c. row _ 70 (c .match .keys71))
     (λ c. row _ 71 (c .match .keys72))
-    (λ c. row _ 72 (c .match .keys73))
+    returns-73
     (λ c. row _ 73 (c .match .keys74))
     (λ c. row _ 74 (c .match .keys75))
     (λ c. row _ 75 (c .match .keys76))
