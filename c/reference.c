@@ -446,6 +446,37 @@ enum ref_fate ref_scan(uint32_t mode, const uint8_t *stream, size_t stream_len, 
     return refusal == PV_ACCEPTED ? REF_FRAME : refusal == PV_INCOMPLETE ? REF_HELD : REF_SKIPPED;
 }
 
+uint32_t ref_why(const uint8_t *recording, size_t recording_len, size_t place, uint64_t *extra, size_t extra_len)
+{
+    if (extra_len != PV_EXTRA_SIZE)
+        return PV_SIZE;
+    if (recording_len > PV_PIECE_MAX || place >= recording_len)
+        return refuse(extra, PV_SIZE, 0);
+    size_t at = 0, frame_len = 0;
+    enum ref_fate fate = ref_scan(0, recording, recording_len, at, &frame_len);
+    while (fate != REF_HELD && at + (fate == REF_FRAME ? frame_len : 1) <= place) {
+        at += fate == REF_FRAME ? frame_len : 1;
+        fate = ref_scan(0, recording, recording_len, at, &frame_len);
+    }
+    clear(extra);
+    extra[PV_AT_WHY_PLACE] = at;
+    if (fate == REF_FRAME) {
+        extra[PV_AT_WHY] = PV_WHY_FRAME;
+        extra[PV_AT_WHY_LENGTH] = frame_len;
+    } else if (fate == REF_HELD) {
+        extra[PV_AT_WHY] = PV_WHY_HELD;
+        extra[PV_AT_WHY_LENGTH] = recording_len - at;
+    } else if (recording[at] != 0xD3) {
+        extra[PV_AT_WHY] = PV_WHY_NOT_D3;
+    } else {
+        size_t length = declared_length(recording + at);
+        extra[PV_AT_WHY] = PV_WHY_BAD_CHECK;
+        extra[PV_AT_WHY_SENT] = get_field(recording + at + length + 3, 0, 24);
+        extra[PV_AT_WHY_COMPUTED] = ref_crc24q(recording + at, length + 3);
+    }
+    return PV_ACCEPTED;
+}
+
 /* The held bytes while a call runs. */
 struct holding {
     uint8_t bytes[PV_HELD_SIZE];

@@ -83,4 +83,6 @@ enum ref_fate { REF_SKIPPED, REF_FRAME, REF_HELD };
  */
 enum ref_fate ref_scan(uint32_t mode, const uint8_t *stream, size_t stream_len, size_t place, size_t *frame_len);
 
+uint32_t ref_why(const uint8_t *recording, size_t recording_len, size_t place, uint64_t *extra, size_t extra_len);
+
 #endif

@@ -98,6 +98,11 @@ uint32_t pv_1001_lock(uint32_t raw, uint64_t *extra, size_t extra_len)
     return ref_1001_lock(raw, extra, extra_len);
 }
 
+uint32_t pv_why(const uint8_t *recording, size_t recording_len, size_t place, uint64_t *extra, size_t extra_len)
+{
+    return ref_why(recording, recording_len, place, extra, extra_len);
+}
+
 uint32_t pv_settings_read(const uint8_t *block, size_t block_len, uint32_t reader_edition, uint32_t index,
                           uint16_t *numbers, size_t numbers_len, uint8_t *priorities, size_t priorities_len,
                           uint64_t *extra, size_t extra_len)

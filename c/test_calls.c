@@ -1197,6 +1197,30 @@ static void comparing(void)
     ACCEPTED(pv_differing(DATA, piece.bytes, piece.size, EXTRA), 0, 65536);
 }
 
+/* ---- What became of a byte. ---- */
+
+/* A false D3, two bytes that are not D3, the empty frame, and a D3 that waits. */
+static void fate_of_a_byte(void)
+{
+    LEND(piece, 0xD3, 0, 0, 0xD3, 0, 0, 0x47, 0xEA, 0x4B, 0xD3, 0);
+    ACCEPTED(pv_why(piece.bytes, piece.size, 0, EXTRA), PV_WHY_BAD_CHECK, 0, 0, 0xD30000, 0x47EA4B);
+    ACCEPTED(pv_why(piece.bytes, piece.size, 1, EXTRA), PV_WHY_NOT_D3, 1);
+    ACCEPTED(pv_why(piece.bytes, piece.size, 2, EXTRA), PV_WHY_NOT_D3, 2);
+    for (size_t place = 3; place < 9; place++)
+        ACCEPTED(pv_why(piece.bytes, piece.size, place, EXTRA), PV_WHY_FRAME, 3, 6);
+    ACCEPTED(pv_why(piece.bytes, piece.size, 9, EXTRA), PV_WHY_HELD, 9, 2);
+    ACCEPTED(pv_why(piece.bytes, piece.size, 10, EXTRA), PV_WHY_HELD, 9, 2);
+    REFUSED(pv_why(piece.bytes, piece.size, 11, EXTRA), PV_SIZE, 0);
+    REFUSED(pv_why(piece.bytes, piece.size, SIZE_MAX, EXTRA), PV_SIZE, 0);
+    REFUSED(pv_why(NULL, 0, 0, EXTRA), PV_SIZE, 0);
+    CHECK(area_same(&piece));
+
+    area_lend(&piece, 65536, 0x5A);
+    ACCEPTED(pv_why(piece.bytes, piece.size, 65535, EXTRA), PV_WHY_NOT_D3, 65535);
+    area_lend(&piece, 65537, 0x5A);
+    REFUSED(pv_why(piece.bytes, piece.size, 0, EXTRA), PV_SIZE, 0);
+}
+
 /* The smallest damage that the checksum lets through: both strings end in their checksum and differ within 25 bits. */
 static void damage_that_slips_through(void)
 {
@@ -1355,7 +1379,7 @@ static void settings(void)
 
 /* ---- The extra area of another size. ---- */
 
-#define CALLS 20
+#define CALLS 21
 
 static uint32_t call_number(unsigned call, uint64_t *numbers, size_t n)
 {
@@ -1379,6 +1403,7 @@ static uint32_t call_number(unsigned call, uint64_t *numbers, size_t n)
     case 16: return pv_differing(DATA, DATA, numbers, n);
     case 17: return pv_1059_signal_of(1, 2, numbers, n);
     case 18: return pv_1059_number_of(1, 1, 'C', numbers, n);
+    case 19: return pv_why(DATA, 0, numbers, n);
     default: return pv_settings_write(1, 0, NULL, 0, NULL, 0, OUT, numbers, n);
     }
 }
@@ -1467,6 +1492,7 @@ int main(void)
     metres();
     signal_tables();
     comparing();
+    fate_of_a_byte();
     damage_that_slips_through();
     settings();
     extra_of_another_size();

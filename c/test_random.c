@@ -479,6 +479,19 @@ static void try_strange_held(void)
     feed_both(held_count, held_count + (one_in(2) ? 0 : below(100000)), below(2));
 }
 
+/* What became of a byte of a recording. */
+static void try_why(void)
+{
+    size_t n = random_stream();
+    lend(&piece, one_in(3) ? below(60) : below(n));
+    fill(&piece, stream);
+    for (int tries = 0; tries < 8; tries++) {
+        size_t place = one_in(20) ? PICK(piece.ours.size, SIZE_MAX, (size_t)1 << 32) : below(piece.ours.size + 1);
+        lend_extra();
+        compare("pv_why", pv_why(OURS(piece), place, OUR_EXTRA), ref_why(THEIRS(piece), place, THEIR_EXTRA));
+    }
+}
+
 static size_t piece_length(size_t kind)
 {
     return kind == 0 ? 1 : kind == 1 ? 1 + below(10) : kind == 2 ? below(200) : kind == 3 ? 1460 : STREAM_MAX;
@@ -675,7 +688,7 @@ static void try_signals(void)
 
 static void (*const tries[])(void) = {
     try_crc, try_field_read, try_field_read, try_field_write, try_field_write, try_frame_check, try_frame_write,
-    try_differing, try_settings_read, try_settings_write,
+    try_differing, try_why, try_settings_read, try_settings_write,
     try_feed, try_1059_read, try_1059_write, try_1230_read, try_1230_write, try_signals,
 };
 

@@ -128,6 +128,16 @@ static inline const char *pv_refusal_name(uint32_t number)
 #define PV_AT_FED_ALL_TAKEN 6    /* Feeding: bytes taken since fresh, from now on. */
 #define PV_AT_FED_KIND 7         /* Feeding: PV_RTCM or PV_UBX; PV_RTCM also where there is no frame. */
 
+#define PV_AT_WHY 0          /* What became of a byte: PV_WHY_FRAME, PV_WHY_NOT_D3, PV_WHY_BAD_CHECK or PV_WHY_HELD. */
+#define PV_AT_WHY_PLACE 1    /* The place of the frame, of the byte itself, or of the unfinished candidate. */
+#define PV_AT_WHY_LENGTH 2   /* Bytes of the frame, or from the candidate to the end; else 0. */
+#define PV_AT_WHY_SENT 3     /* PV_WHY_BAD_CHECK: the checksum sent; else 0. */
+#define PV_AT_WHY_COMPUTED 4 /* PV_WHY_BAD_CHECK: the checksum computed; else 0. */
+#define PV_WHY_FRAME 0       /* The byte is part of a frame. */
+#define PV_WHY_NOT_D3 1      /* It was skipped: it is not D3. */
+#define PV_WHY_BAD_CHECK 2   /* It was skipped: a D3 whose checksum is wrong. */
+#define PV_WHY_HELD 3        /* It is held: an unfinished candidate waits for more bytes. */
+
 #define PV_AT_READ_RECORDS 0 /* Block read: how many records. */
 #define PV_AT_READ_END 1     /* Block read: the bit behind the block. */
 #define PV_AT_WRITTEN_END 0  /* Block written: the bit behind the block. */
@@ -291,6 +301,20 @@ uint32_t pv_differing(const uint8_t *sent, size_t sent_len, const uint8_t *recei
 uint32_t pv_feed(uint8_t *held, size_t held_len, size_t held_count, uint64_t taken, uint32_t mode,
                  const uint8_t *piece, size_t piece_len, uint8_t *out, size_t out_len,
                  uint64_t *extra, size_t extra_len);
+
+/* ---- Why a byte of a recording was dropped. ---- */
+
+/*
+ * Says what became of one byte of a recording, as the scan of the whole recording for RTCM frames has it: it is part of a
+ * frame; it was skipped, because it is not D3 or because it is a D3 whose checksum was wrong; or it is held at the end,
+ * from an unfinished candidate on.
+ *
+ * Refuses: PV_SIZE (a recording above 65,536 bytes, or a place at or past its end).
+ * Answers: [PV_AT_WHY] PV_WHY_FRAME, PV_WHY_NOT_D3, PV_WHY_BAD_CHECK or PV_WHY_HELD; [PV_AT_WHY_PLACE] where the frame
+ * or the candidate starts, else the place itself; [PV_AT_WHY_LENGTH] the bytes of the frame, or from the candidate to the
+ * end, else 0; [PV_AT_WHY_SENT] and [PV_AT_WHY_COMPUTED] both checksums of PV_WHY_BAD_CHECK, else 0.
+ */
+uint32_t pv_why(const uint8_t *recording, size_t recording_len, size_t place, uint64_t *extra, size_t extra_len);
 
 /* ---- The bias block of message 1059 (GPS code biases). ---- */
 

@@ -37,3 +37,5 @@ pub mod CloseLaws
 pub mod StandLaws
 pub mod PlaceLaws
 pub mod RtcmDemand
+pub mod FateLaws
+pub mod OnlyLaws

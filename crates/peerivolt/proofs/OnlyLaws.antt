@@ -20,6 +20,8 @@ use Rattle.messages.specs.SignalOrder.{order}
 use Rattle.damage.specs.Compare.{compare}
 use Rattle.settings.specs.Read.{readSettings}
 use Rattle.settings.specs.Write.{writeSettings}
+use Rattle.frames.specs.Fate.{fateOf}
+use Rattle.peerivolt.specs.Why.{fateValues}
 use Rattle.peerivolt.specs.Damage.{runValues}
 use Rattle.peerivolt.specs.Settings.{readsSettings}
 use Rattle.observations.specs.declared.answer.Header.{Header}
@@ -141,3 +143,6 @@ only-pv-1001-phase raw e = only-returned (reads measuredValues (Accepted (phaseO
 
 pub only-pv-1001-lock : (raw : ℕ) (e : List ℕ) → OneAnswer (reads measuredValues (Accepted (lockOf raw)) e)
 only-pv-1001-lock raw e = only-returned (reads measuredValues (Accepted (lockOf raw)) e)
+
+pub only-pv-why : (s : List ℕ) (q : ℕ) (e : List ℕ) → OneAnswer (reads fateValues (fateOf s q) e)
+only-pv-why s q e = only-returned (reads fateValues (fateOf s q) e)

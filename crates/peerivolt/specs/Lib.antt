@@ -9,3 +9,4 @@ pub mod Feeding
 pub mod Signals
 pub mod Biases
 pub mod Message1001
+pub mod Why

@@ -11,3 +11,4 @@ pub mod scanner;
 pub mod signals;
 pub mod signals1059;
 pub mod version;
+pub mod why;
