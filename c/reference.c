@@ -398,6 +398,83 @@ uint32_t ref_settings_write(uint32_t edition, uint32_t index, const uint16_t *nu
     return accept_one(extra, PV_SETTINGS_SIZE);
 }
 
+/* ---- The bias cache. ---- */
+
+static int key_fits(uint32_t provider, uint32_t solution, uint32_t satellite, uint32_t signal)
+{
+    return provider < 65536 && solution < 16 && satellite < 64 && signal < 32;
+}
+
+/* The first entry with the key, or the number of entries. */
+static size_t place_of(const struct pv_cache_entry *entries, size_t n, uint32_t provider, uint32_t solution,
+                       uint32_t satellite, uint32_t signal)
+{
+    for (size_t i = 0; i < n; i++)
+        if (entries[i].in_use != 0 && entries[i].provider == provider && entries[i].solution == solution &&
+            entries[i].satellite == satellite && entries[i].signal == signal)
+            return i;
+    return n;
+}
+
+uint32_t ref_cache_store(struct pv_cache_entry *entries, size_t entries_len, uint32_t provider, uint32_t solution,
+                         uint32_t satellite, uint32_t signal, uint32_t iod, int32_t bias,
+                         uint64_t *extra, size_t extra_len)
+{
+    if (extra_len != PV_EXTRA_SIZE)
+        return PV_SIZE;
+    if (entries_len > PV_CACHE_MAX)
+        return refuse(extra, PV_SIZE, 0);
+    if (!key_fits(provider, solution, satellite, signal) || iod > 15 || bias < -8192 || bias > 8191)
+        return refuse(extra, PV_RANGE, 0);
+    size_t at = place_of(entries, entries_len, provider, solution, satellite, signal);
+    for (size_t i = 0; at == entries_len && i < entries_len; i++)
+        if (entries[i].in_use == 0)
+            at = i;
+    if (at == entries_len)
+        return refuse(extra, PV_FULL, 0);
+    entries[at] = (struct pv_cache_entry){ 1,
+                                           (uint16_t)provider,
+                                           (uint16_t)solution,
+                                           (uint16_t)satellite,
+                                           (uint16_t)signal,
+                                           (uint16_t)iod,
+                                           (int16_t)bias };
+    clear(extra);
+    return PV_ACCEPTED;
+}
+
+uint32_t ref_cache_remove(struct pv_cache_entry *entries, size_t entries_len, uint32_t provider, uint32_t solution,
+                          uint32_t satellite, uint32_t signal, uint64_t *extra, size_t extra_len)
+{
+    if (extra_len != PV_EXTRA_SIZE)
+        return PV_SIZE;
+    if (entries_len > PV_CACHE_MAX)
+        return refuse(extra, PV_SIZE, 0);
+    if (!key_fits(provider, solution, satellite, signal))
+        return refuse(extra, PV_RANGE, 0);
+    size_t at = place_of(entries, entries_len, provider, solution, satellite, signal);
+    if (at == entries_len)
+        return refuse(extra, PV_ABSENT, 0);
+    memset(&entries[at], 0, sizeof entries[at]);
+    clear(extra);
+    return PV_ACCEPTED;
+}
+
+uint32_t ref_cache_lookup(const struct pv_cache_entry *entries, size_t entries_len, uint32_t provider, uint32_t solution,
+                          uint32_t satellite, uint32_t signal, uint64_t *extra, size_t extra_len)
+{
+    if (extra_len != PV_EXTRA_SIZE)
+        return PV_SIZE;
+    if (entries_len > PV_CACHE_MAX)
+        return refuse(extra, PV_SIZE, 0);
+    if (!key_fits(provider, solution, satellite, signal))
+        return refuse(extra, PV_RANGE, 0);
+    size_t at = place_of(entries, entries_len, provider, solution, satellite, signal);
+    if (at == entries_len)
+        return refuse(extra, PV_ABSENT, 0);
+    return accept_two(extra, entries[at].iod, (uint64_t)(int64_t)entries[at].bias);
+}
+
 /* ---- Scanning. ---- */
 
 /* The UBX frame that the bytes begin with: 0, PV_BAD_CHECK or PV_INCOMPLETE, by the public description. */

@@ -37,6 +37,15 @@ uint32_t ref_settings_write(uint32_t edition, uint32_t index, const uint16_t *nu
                             const uint8_t *priorities, size_t priorities_len, uint8_t *out, size_t out_len,
                             uint64_t *extra, size_t extra_len);
 
+struct pv_cache_entry;
+uint32_t ref_cache_store(struct pv_cache_entry *entries, size_t entries_len, uint32_t provider, uint32_t solution,
+                         uint32_t satellite, uint32_t signal, uint32_t iod, int32_t bias,
+                         uint64_t *extra, size_t extra_len);
+uint32_t ref_cache_remove(struct pv_cache_entry *entries, size_t entries_len, uint32_t provider, uint32_t solution,
+                          uint32_t satellite, uint32_t signal, uint64_t *extra, size_t extra_len);
+uint32_t ref_cache_lookup(const struct pv_cache_entry *entries, size_t entries_len, uint32_t provider, uint32_t solution,
+                          uint32_t satellite, uint32_t signal, uint64_t *extra, size_t extra_len);
+
 uint32_t ref_feed(uint8_t *held, size_t held_len, size_t held_count, uint64_t taken, uint32_t mode,
                   const uint8_t *piece, size_t piece_len, uint8_t *out, size_t out_len,
                   uint64_t *extra, size_t extra_len);

@@ -119,6 +119,25 @@ uint32_t pv_settings_write(uint32_t edition, uint32_t index, const uint16_t *num
                               extra_len);
 }
 
+uint32_t pv_cache_store(struct pv_cache_entry *entries, size_t entries_len, uint32_t provider, uint32_t solution,
+                        uint32_t satellite, uint32_t signal, uint32_t iod, int32_t bias,
+                        uint64_t *extra, size_t extra_len)
+{
+    return ref_cache_store(entries, entries_len, provider, solution, satellite, signal, iod, bias, extra, extra_len);
+}
+
+uint32_t pv_cache_remove(struct pv_cache_entry *entries, size_t entries_len, uint32_t provider, uint32_t solution,
+                         uint32_t satellite, uint32_t signal, uint64_t *extra, size_t extra_len)
+{
+    return ref_cache_remove(entries, entries_len, provider, solution, satellite, signal, extra, extra_len);
+}
+
+uint32_t pv_cache_lookup(const struct pv_cache_entry *entries, size_t entries_len, uint32_t provider, uint32_t solution,
+                         uint32_t satellite, uint32_t signal, uint64_t *extra, size_t extra_len)
+{
+    return ref_cache_lookup(entries, entries_len, provider, solution, satellite, signal, extra, extra_len);
+}
+
 uint32_t pv_frame_check(const uint8_t *bytes, size_t bytes_len, uint64_t *extra, size_t extra_len)
 {
     return EITHER(frame_check)(bytes, bytes_len, extra, extra_len);

@@ -117,6 +117,11 @@ static inline uint64_t *area_u64(const struct area *area)
     return (uint64_t *)(void *)area->bytes;
 }
 
+static inline struct pv_cache_entry *area_entries(const struct area *area)
+{
+    return (struct pv_cache_entry *)(void *)area->bytes;
+}
+
 static inline uint16_t *area_u16(const struct area *area)
 {
     return (uint16_t *)(void *)area->bytes;

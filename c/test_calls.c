@@ -1377,9 +1377,86 @@ static void settings(void)
     settings_fixed_lists();
 }
 
+/* ---- The bias cache: entries in `data`. ---- */
+
+#define ENTRIES area_entries(&data), data.size / sizeof(struct pv_cache_entry)
+
+static void lend_entries(size_t n)
+{
+    area_lend(&data, n * sizeof(struct pv_cache_entry), 0);
+}
+
+/* Two providers with the same satellite and signal: each finds its own. */
+static void two_providers(void)
+{
+    lend_entries(2);
+    ACCEPTED(pv_cache_store(ENTRIES, 1, 0, 5, 0, 3, -100, EXTRA), 0);
+    ACCEPTED(pv_cache_store(ENTRIES, 2, 0, 5, 0, 4, 8191, EXTRA), 0);
+    ACCEPTED(pv_cache_lookup(ENTRIES, 1, 0, 5, 0, EXTRA), 3, SIGNED(-100));
+    ACCEPTED(pv_cache_lookup(ENTRIES, 2, 0, 5, 0, EXTRA), 4, 8191);
+    REFUSED(pv_cache_lookup(ENTRIES, 3, 0, 5, 0, EXTRA), PV_ABSENT, 0);
+    REFUSED(pv_cache_lookup(ENTRIES, 1, 1, 5, 0, EXTRA), PV_ABSENT, 0);
+    REFUSED(pv_cache_store(ENTRIES, 1, 1, 5, 0, 0, 0, EXTRA), PV_FULL, 0);
+    ACCEPTED(pv_cache_store(ENTRIES, 1, 0, 5, 0, 7, -8192, EXTRA), 0);
+    ACCEPTED(pv_cache_lookup(ENTRIES, 1, 0, 5, 0, EXTRA), 7, SIGNED(-8192));
+    ACCEPTED(pv_cache_lookup(ENTRIES, 2, 0, 5, 0, EXTRA), 4, 8191);
+    ACCEPTED(pv_cache_remove(ENTRIES, 1, 0, 5, 0, EXTRA), 0);
+    HAS(data, 0, 0, 0, 0, 0, 0, 0, 0, 0, 0, 0, 0, 0, 0);
+    REFUSED(pv_cache_remove(ENTRIES, 1, 0, 5, 0, EXTRA), PV_ABSENT, 0);
+    ACCEPTED(pv_cache_store(ENTRIES, 1, 1, 5, 0, 0, 0, EXTRA), 0);
+    CHECK(area_entries(&data)[0].in_use == 1 && area_entries(&data)[0].solution == 1);
+}
+
+/* A key twice: the first place counts, and removing it shows the second. */
+static void a_key_twice(void)
+{
+    lend_entries(4);
+    struct pv_cache_entry *entries = area_entries(&data);
+    entries[1] = (struct pv_cache_entry){ 9, 7, 1, 2, 3, 4, 50 };
+    entries[3] = (struct pv_cache_entry){ 1, 7, 1, 2, 3, 5, 60 };
+    ACCEPTED(pv_cache_lookup(ENTRIES, 7, 1, 2, 3, EXTRA), 4, 50);
+    ACCEPTED(pv_cache_store(ENTRIES, 7, 1, 2, 3, 6, 70, EXTRA), 0);
+    CHECK(entries[1].in_use == 1 && entries[1].bias == 70 && entries[3].bias == 60 && entries[0].in_use == 0);
+    ACCEPTED(pv_cache_remove(ENTRIES, 7, 1, 2, 3, EXTRA), 0);
+    ACCEPTED(pv_cache_lookup(ENTRIES, 7, 1, 2, 3, EXTRA), 5, 60);
+}
+
+static void cache_refusals(void)
+{
+    lend_entries(513);
+    REFUSED(pv_cache_store(ENTRIES, 65536, 0, 0, 0, 0, 0, EXTRA), PV_SIZE, 0);
+    REFUSED(pv_cache_remove(ENTRIES, 65536, 0, 0, 0, EXTRA), PV_SIZE, 0);
+    REFUSED(pv_cache_lookup(ENTRIES, 65536, 0, 0, 0, EXTRA), PV_SIZE, 0);
+    lend_entries(0);
+    const uint32_t bad[][5] = { { 65536, 0, 0, 0, 0 }, { 0, 16, 0, 0, 0 }, { 0, 0, 64, 0, 0 }, { 0, 0, 0, 32, 0 } };
+    for (size_t i = 0; i < sizeof bad / sizeof bad[0]; i++) {
+        REFUSED(pv_cache_store(ENTRIES, bad[i][0], bad[i][1], bad[i][2], bad[i][3], 0, 0, EXTRA), PV_RANGE, 0);
+        REFUSED(pv_cache_remove(ENTRIES, bad[i][0], bad[i][1], bad[i][2], bad[i][3], EXTRA), PV_RANGE, 0);
+        REFUSED(pv_cache_lookup(ENTRIES, bad[i][0], bad[i][1], bad[i][2], bad[i][3], EXTRA), PV_RANGE, 0);
+    }
+    REFUSED(pv_cache_store(ENTRIES, 0, 0, 0, 0, 16, 0, EXTRA), PV_RANGE, 0);
+    REFUSED(pv_cache_store(ENTRIES, 0, 0, 0, 0, 15, 8192, EXTRA), PV_RANGE, 0);
+    REFUSED(pv_cache_store(ENTRIES, 0, 0, 0, 0, 15, -8193, EXTRA), PV_RANGE, 0);
+    REFUSED(pv_cache_store(ENTRIES, 0, 0, 0, 0, 15, INT32_MIN, EXTRA), PV_RANGE, 0);
+    REFUSED(pv_cache_store(ENTRIES, 65535, 15, 63, 31, 15, 8191, EXTRA), PV_FULL, 0);
+    lend_entries(512);
+    for (uint32_t i = 0; i < 512; i++)
+        ACCEPTED(pv_cache_store(ENTRIES, i, 15, 63, 31, 15, (int32_t)i - 256, EXTRA), 0);
+    REFUSED(pv_cache_store(ENTRIES, 512, 15, 63, 31, 15, 0, EXTRA), PV_FULL, 0);
+    for (uint32_t i = 0; i < 512; i++)
+        ACCEPTED(pv_cache_lookup(ENTRIES, i, 15, 63, 31, EXTRA), 15, SIGNED((int32_t)i - 256));
+}
+
+static void cache(void)
+{
+    two_providers();
+    a_key_twice();
+    cache_refusals();
+}
+
 /* ---- The extra area of another size. ---- */
 
-#define CALLS 21
+#define CALLS 24
 
 static uint32_t call_number(unsigned call, uint64_t *numbers, size_t n)
 {
@@ -1404,7 +1481,10 @@ static uint32_t call_number(unsigned call, uint64_t *numbers, size_t n)
     case 17: return pv_1059_signal_of(1, 2, numbers, n);
     case 18: return pv_1059_number_of(1, 1, 'C', numbers, n);
     case 19: return pv_why(DATA, 0, numbers, n);
-    default: return pv_settings_write(1, 0, NULL, 0, NULL, 0, OUT, numbers, n);
+    case 20: return pv_settings_write(1, 0, NULL, 0, NULL, 0, OUT, numbers, n);
+    case 21: return pv_cache_store(area_entries(&data), 2, 0, 0, 0, 0, 0, 0, numbers, n);
+    case 22: return pv_cache_lookup(area_entries(&data), 2, 0, 0, 0, 0, numbers, n);
+    default: return pv_cache_remove(area_entries(&data), 2, 0, 0, 0, 0, numbers, n);
     }
 }
 
@@ -1495,6 +1575,7 @@ int main(void)
     fate_of_a_byte();
     damage_that_slips_through();
     settings();
+    cache();
     extra_of_another_size();
     refusal_names();
     version();

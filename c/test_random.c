@@ -324,6 +324,53 @@ static void try_settings_read(void)
             ref_settings_read(THEIRS(data), reader, expected, THEIR_SETTINGS, THEIR_EXTRA));
 }
 
+/* ---- The bias cache: entries in `data`. ---- */
+
+#define ENTRY sizeof(struct pv_cache_entry)
+#define OUR_ENTRIES area_entries(&data.ours), data.ours.size / ENTRY
+#define THEIR_ENTRIES area_entries(&data.theirs), data.theirs.size / ENTRY
+
+/* Entries over few keys, some of them free, some in use by an odd number, some keys twice. */
+static void random_entries(size_t n)
+{
+    lend_random(&data, n * ENTRY);
+    for (size_t i = 0; i < n; i++) {
+        if (one_in(30))
+            continue;
+        const uint16_t numbers[] = { (uint16_t)(one_in(3) ? 0 : one_in(20) ? random64() : 1), (uint16_t)below(3),
+                                     (uint16_t)below(2), (uint16_t)below(3), (uint16_t)below(2) };
+        for (size_t k = 0; k < 2 * sizeof numbers / sizeof numbers[0]; k++)
+            set_byte(&data, i * ENTRY + k, ((const uint8_t *)numbers)[k]);
+    }
+}
+
+static uint32_t random_number(size_t few, uint64_t limit)
+{
+    return (uint32_t)(one_in(40) ? PICK(limit - 1, limit, 0xFFFFFFFF, 65536) : below(few));
+}
+
+static void try_cache(void)
+{
+    random_entries(one_in(40) ? PICK(511, 512, 513, 600) : below(12));
+    lend_extra();
+    uint32_t provider = random_number(3, 65536), solution = random_number(2, 16);
+    uint32_t satellite = random_number(3, 64), signal = random_number(2, 32), iod = random_number(16, 16);
+    int32_t bias = (int32_t)(one_in(20) ? (int64_t)PICK(0, 8191, 8192, 0xFFFFDFFF, 0x80000000) : (int64_t)below(16384) - 8192);
+    switch (below(3)) {
+    case 0:
+        compare("pv_cache_store", pv_cache_store(OUR_ENTRIES, provider, solution, satellite, signal, iod, bias, OUR_EXTRA),
+                ref_cache_store(THEIR_ENTRIES, provider, solution, satellite, signal, iod, bias, THEIR_EXTRA));
+        break;
+    case 1:
+        compare("pv_cache_remove", pv_cache_remove(OUR_ENTRIES, provider, solution, satellite, signal, OUR_EXTRA),
+                ref_cache_remove(THEIR_ENTRIES, provider, solution, satellite, signal, THEIR_EXTRA));
+        break;
+    default:
+        compare("pv_cache_lookup", pv_cache_lookup(OUR_ENTRIES, provider, solution, satellite, signal, OUR_EXTRA),
+                ref_cache_lookup(THEIR_ENTRIES, provider, solution, satellite, signal, THEIR_EXTRA));
+    }
+}
+
 /* ---- Feeding. ---- */
 
 #define STREAM_MAX 13000
@@ -688,7 +735,7 @@ static void try_signals(void)
 
 static void (*const tries[])(void) = {
     try_crc, try_field_read, try_field_read, try_field_write, try_field_write, try_frame_check, try_frame_write,
-    try_differing, try_why, try_settings_read, try_settings_write,
+    try_differing, try_why, try_settings_read, try_settings_write, try_cache,
     try_feed, try_1059_read, try_1059_write, try_1230_read, try_1230_write, try_signals,
 };
 

@@ -97,6 +97,7 @@ static inline const char *pv_refusal_name(uint32_t number)
 #define PV_1059_WRITE_MAX 1953 /* Records in the longest list that a 1059 block is written from. */
 #define PV_1230_MAX 4        /* Records in the longest 1230 block, in reading and in writing. */
 #define PV_1001_MAX 31       /* Observations in the longest message 1001, in reading and in writing. */
+#define PV_CACHE_MAX 512     /* Entries in the longest list of a bias cache. */
 #define PV_SETTINGS_SIZE 512 /* Bytes in a settings block, exactly. */
 #define PV_SETTINGS_MAX 64   /* Numbers in a settings block at most, and places in the lists that it is read into, exactly. */
 
@@ -167,6 +168,9 @@ static inline const char *pv_refusal_name(uint32_t number)
 #define PV_AT_SETTINGS_COUNT 0   /* Settings read: how many numbers. */
 #define PV_AT_SETTINGS_EDITION 1 /* Settings read: the edition of the block. */
 #define PV_AT_SETTINGS_BYTES 0   /* Settings written: the bytes of the block, 512. */
+
+#define PV_AT_CACHE_IOD 0  /* Cache lookup: the IOD. */
+#define PV_AT_CACHE_BIAS 1 /* Cache lookup: the raw bias, as int64_t. */
 
 /* What feeding answers at PV_AT_FED_IS_FRAME. */
 #define PV_MORE 0  /* The whole piece was taken, and there is no frame yet. */
@@ -483,6 +487,38 @@ uint32_t pv_settings_read(const uint8_t *block, size_t block_len, uint32_t reade
 uint32_t pv_settings_write(uint32_t edition, uint32_t index, const uint16_t *numbers, size_t numbers_len,
                            const uint8_t *priorities, size_t priorities_len, uint8_t *out, size_t out_len,
                            uint64_t *extra, size_t extra_len);
+
+/* ---- The bias cache. ---- */
+
+/*
+ * An entry of a bias cache. `in_use` 0 is free, whatever the other numbers are; any other number is in use. A list whose
+ * bytes are all 0 is an empty cache.
+ */
+struct pv_cache_entry {
+    uint16_t in_use, provider, solution, satellite, signal, iod;
+    int16_t bias;
+};
+
+/*
+ * A cache is a list of at most 512 entries that the caller keeps. The key of an entry is provider, solution, satellite
+ * and signal together: what one provider stores, another never sees. Room is the one thing that providers share. Where a
+ * list holds a key twice, the first place counts.
+ *
+ * Store replaces the entry with the same key, or takes the first free one, and writes 1 and the six numbers. Remove frees
+ * the first entry with the key: seven zeros; a freed entry is used again. Lookup finds the entry with the whole key.
+ *
+ * Each refuses, in this order: PV_SIZE (more than 512 entries), PV_RANGE (a number outside its message field: provider 16
+ * bits, solution 4, satellite 6, signal 5, iod 4, bias 14 bits of two's complement; carries 0), then
+ * store PV_FULL (exactly if neither the key nor a free entry is there), remove and lookup PV_ABSENT.
+ * Lookup answers: [PV_AT_CACHE_IOD]; [PV_AT_CACHE_BIAS], as int64_t. Store and remove answer nothing.
+ */
+uint32_t pv_cache_store(struct pv_cache_entry *entries, size_t entries_len, uint32_t provider, uint32_t solution,
+                        uint32_t satellite, uint32_t signal, uint32_t iod, int32_t bias,
+                        uint64_t *extra, size_t extra_len);
+uint32_t pv_cache_remove(struct pv_cache_entry *entries, size_t entries_len, uint32_t provider, uint32_t solution,
+                         uint32_t satellite, uint32_t signal, uint64_t *extra, size_t extra_len);
+uint32_t pv_cache_lookup(const struct pv_cache_entry *entries, size_t entries_len, uint32_t provider, uint32_t solution,
+                         uint32_t satellite, uint32_t signal, uint64_t *extra, size_t extra_len);
 
 /* ---- Signal tables. ---- */
 

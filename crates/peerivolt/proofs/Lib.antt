@@ -1,5 +1,6 @@
 pub mod AnswerLaws
 pub mod SettingsLaws
+pub mod CacheLaws
 pub mod OnlyLaws
 pub mod KeepLaws
 pub mod FeedLaws

@@ -22,6 +22,8 @@ use Rattle.settings.specs.Read.{readSettings}
 use Rattle.settings.specs.Write.{writeSettings}
 use Rattle.frames.specs.Fate.{fateOf}
 use Rattle.peerivolt.specs.Why.{fateValues}
+use Rattle.cache.specs.Cache.{Call, step}
+use Rattle.peerivolt.specs.Cache.{valueValues}
 use Rattle.peerivolt.specs.Damage.{runValues}
 use Rattle.peerivolt.specs.Settings.{readsSettings}
 use Rattle.observations.specs.declared.answer.Header.{Header}
@@ -89,6 +91,12 @@ only-pv-settings-read s r x ns ps e = only-returned (readsSettings ns ps (readSe
 
 pub only-pv-settings-write : (d x : ℕ) (ns ps out e : List ℕ) → OneAnswer (answered endValues e out (writeSettings d x ns ps out))
 only-pv-settings-write d x ns ps out e = only-returned (answered endValues e out (writeSettings d x ns ps out))
+
+pub only-pv-cache : (c : Call) (l : List (List ℕ)) (e : List ℕ) → OneAnswer (answered valueValues e l (step c l))
+only-pv-cache c l e = only-returned (answered valueValues e l (step c l))
+
+pub only-pv-cache-lookup : (c : Call) (l : List (List ℕ)) (e : List ℕ) → OneAnswer (reads valueValues (step c l .answer) e)
+only-pv-cache-lookup c l e = only-returned (reads valueValues (step c l .answer) e)
 
 pub only-pv-feed : (held : List ℕ) (count taken mode : ℕ) (piece out e : List ℕ)
     → OneAnswer (feeds held out (feedOf (framingOf mode) held (scannerOf count taken mode) piece out) e)

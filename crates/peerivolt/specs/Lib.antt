@@ -4,6 +4,7 @@ pub mod Fields
 pub mod Frames
 pub mod Damage
 pub mod Settings
+pub mod Cache
 pub mod Scanner
 pub mod Feeding
 pub mod Signals

@@ -3,6 +3,7 @@
 pub mod biases;
 pub mod blocks;
 pub mod comparing;
+pub mod entries;
 mod extra;
 pub mod fields;
 pub mod message_1001;
