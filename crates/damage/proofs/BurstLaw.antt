@@ -12,9 +12,10 @@ use lib.Dec.{ltb}
 use borrow.Author.Tests.{ltb-true, ltb-false}
 use lib.Pow.{pow-pos}
 use lib.Bits.{bitXor, xor-self, xor-comm, xor-lt}
-use Rattle.bits.specs.Crc.{crc, crcFrom, crcBit, crcBits}
+use Rattle.bits.specs.Crc.{crc, crcFrom, crcBits}
 use Rattle.bits.specs.Field.{bitAt, field}
 use Rattle.bits.specs.Fields.{Bytes}
+use Rattle.bits.proofs.CrcLaws.{crc-is, bits-zero}
 use Rattle.bits.proofs.FieldLaws.{field-lt}
 use Rattle.bits.proofs.SameBits.{same-bits, field-bits}
 use Rattle.damage.specs.Damage.{Sealed, DifferWithin}
@@ -24,18 +25,18 @@ use Rattle.damage.proofs.FeedLaws.{feed, feed-below, feed-append, feed-
 -- ---- a string that ends in its checksum leaves nothing
 
 rest-of : (s : List ℕ) → Bytes s → Sealed s → feed 0 s 0 (length s * 8) ≡ 0
-unfolding crc crcBits crcBit
 rest-of s b h =
     let n : ℕ = length s - 3 in
     let three : 3 ≤ length s = h .long in
     let e : length s * 8 ≡ n * 8 + 24 = omega arith in
-    let front : feed 0 s 0 (n * 8) ≡ crc (take n s) = sym (feed-bytes s b n 0 0 (omega arith)) in
+    let front : feed 0 s 0 (n * 8) ≡ crc (take n s) = sym (crc-is (take n s) ∙ feed-bytes s b n 0 0 (omega arith)) in
     ap (feed 0 s 0) e
     ∙ feed-append 0 s 0 (n * 8) 24
     ∙ ap₂ (λ (c p : ℕ). feed c s p 24) front (zero-add (n * 8))
     ∙ feed-24 (crc (take n s)) s (n * 8)
     ∙ ap (λ (x : ℕ). crcBits 24 (bitXor x (crc (take n s)))) (h .check)
     ∙ ap (crcBits 24) (xor-self (crc (take n s)))
+    ∙ bits-zero 24
 
 -- a place lies on the one side or on the other
 sides : (i p : ℕ) → (i < p) ⊎ (p ≤ i)

@@ -12,10 +12,10 @@ use lib.Bits.{bitXor, xor-shifted, xor-zero-l, xor-comm, xor-lt}
 use Rattle.bits.specs.Crc.{crcBit, crcBits, crcByte, crcFrom}
 use Rattle.bits.specs.Field.{bitAt, field}
 use Rattle.bits.specs.Fields.{Bytes}
-use Rattle.bits.proofs.CrcLaws.{bits-linear, bit-below}
-use Rattle.bits.proofs.FieldLaws.{bit-lt, field-whole}
+use Rattle.bits.proofs.CrcLaws.{bits-none, bits-more, byte-is, from-nil, from-cons, bits-linear, bits-shift, bit-below}
+use Rattle.bits.proofs.FieldLaws.{bit-lt, field-none, field-more, field-whole}
 use Rattle.bits.proofs.XorLaws.{xor-assoc}
-use Rattle.damage.proofs.BackLaws.{bit-back, bits-shift, xor-cancel}
+use Rattle.damage.proofs.BackLaws.{bit-back, xor-cancel}
 
 -- w bits of s, from bit p on, one after the other into the top of the sum
 unfoldable pub feed : ℕ → List ℕ → ℕ → ℕ → ℕ
@@ -85,38 +85,39 @@ module _ (c : ℕ) (s : List ℕ) (p : ℕ) where
   -- with m bits of room left below, and one more taken
   one-more : (w m : ℕ) → w + m ≡ 23 → feed c s p w ≡ crcBits w (bitXor (field s p w * 2 ^ suc m) c)
       → feed c s p (suc w) ≡ crcBits (suc w) (bitXor (field s p (suc w) * 2 ^ m) c)
-  unfolding feed field crcBits
+  unfolding feed
   one-more w m e ih =
       ap crcBit
       (ap₂ bitXor (rises w m (bitAt s (p + w)) e (bit-lt s (p + w))) ih
       ∙ sym (bits-linear w (bitAt s (p + w) * 2 ^ m) (bitXor (field s p w * 2 ^ suc m) c))
-      ∙ ap (crcBits w) (sym (xor-assoc (bitAt s (p + w) * 2 ^ m) (field s p w * 2 ^ suc m) c) ∙ ap (λ (n : ℕ). bitXor n c) (sym (behind (field s p w) (bitAt s (p + w)) m (bit-lt s (p + w))))))
+      ∙ ap (crcBits w) (sym (xor-assoc (bitAt s (p + w) * 2 ^ m) (field s p w * 2 ^ suc m) c) ∙ ap (λ (n : ℕ). bitXor n c) (sym (behind (field s p w) (bitAt s (p + w)) m (bit-lt s (p + w))) ∙ ap (λ (x : ℕ). x * 2 ^ m) (sym (field-more s p w)))))
+      ∙ sym (bits-more w (bitXor (field s p (suc w) * 2 ^ m) c))
 
   fed : (w m : ℕ) → w + m ≡ 24 → feed c s p w ≡ crcBits w (bitXor (field s p w * 2 ^ m) c)
-  unfolding feed field crcBits
-  fed zero m e = rw (zero-mul (2 ^ m)) (sym (xor-zero-l c))
+  unfolding feed
+  fed zero m e = rw (bits-none (bitXor (field s p 0 * 2 ^ m) c), field-none s p, zero-mul (2 ^ m)) (sym (xor-zero-l c))
   fed (suc w) m e = one-more w m (omega arith) (fed w (suc m) (omega arith))
 
   pub feed-24 : feed c s p 24 ≡ crcBits 24 (bitXor (field s p 24) c)
   feed-24 = fed 24 0 refl ∙ ap (λ (n : ℕ). crcBits 24 (bitXor n c)) (mul-one (field s p 24))
 
   pub feed-8 : feed c s p 8 ≡ crcByte c (field s p 8)
-  unfolding crcByte
-  feed-8 = fed 8 16 refl
+  feed-8 = fed 8 16 refl ∙ sym (byte-is c (field s p 8))
 
 -- ---- bytes
 
 module _ (s : List ℕ) (b : Bytes s) where
   -- the checksum of k bytes from byte i on, continued from c
   pub feed-bytes : (k i c : ℕ) → i + k ≤ length s → crcFrom c (take k (drop i s)) ≡ feed c s (i * 8) (k * 8)
-  unfolding feed crcFrom
-  feed-bytes zero i c h = refl
+  unfolding feed
+  feed-bytes zero i c h = from-nil c
   feed-bytes (suc k) i c h =
       let e : suc k * 8 ≡ 8 + k * 8 = omega arith in
       let q : i * 8 + 8 ≡ suc i * 8 = omega arith in
       let one : feed c s (i * 8) 8 ≡ crcByte c (getD s i 0) = feed-8 c s (i * 8) ∙ ap (crcByte c) (field-whole s i (b .byte i)) in
       rw (drop-cons s i 0 (omega arith))
-      (feed-bytes k (suc i) (crcByte c (getD s i 0)) (omega arith)
+      (from-cons c (getD s i 0) (take k (drop (suc i) s))
+      ∙ feed-bytes k (suc i) (crcByte c (getD s i 0)) (omega arith)
       ∙ ap₂ (λ (x y : ℕ). feed x s y (k * 8)) (sym one) (sym q)
       ∙ sym (feed-append c s (i * 8) 8 (k * 8))
       ∙ ap (feed c s (i * 8)) (sym e))
