@@ -9,10 +9,10 @@ use lib.ListN.{length}
 use lib.IntN.{ℤ}
 use lib.Dec.{eqb, ltb}
 use Rattle.bits.specs.Told.{Accepted, andThen, tooMany}
-use Rattle.bits.specs.Signed.{fitsTwos}
+use Rattle.bits.specs.Signed.{fitsTwos, twosBits}
 use Rattle.bits.specs.Outcome.{outcome}
-use Rattle.bits.specs.Fields.{total, putAll, Fit}
-use Rattle.bits.proofs.FieldsLaws.{fit-append}
+use Rattle.bits.specs.Fields.{total, putAll, Fit, bits}
+use Rattle.bits.proofs.FieldsLaws.{fit-append, fit-none, fit-next}
 use Rattle.bits.proofs.SignedLaws.{twos-bits-lt}
 use Rattle.messages.specs.Every.{Every}
 use Rattle.messages.specs.Records.{Rec1059, rec1059, satelliteOf, signalOf1059, biasOf1059, records1059}
@@ -139,14 +139,18 @@ of-writable e c (rec1059 b g z ∷ rs) w = go (eqb b c) refl (of-writable e c rs
     go false q r = r
 
 fit-biases : (e : ℕ) (rs : List Rec1059) → Every (Writable e) rs → Fit (biasFields rs)
-unfolding biasFields Fit
-fit-biases e [] w = tt
-fit-biases e (rec1059 a g z ∷ rs) w = (signal-fits e g (w .0 .known), (twos-bits-lt 14 (omega arith) z (w .0 .fits), fit-biases e rs (w .1)))
+unfolding biasFields
+fit-biases e [] w = fit-none
+fit-biases e (rec1059 a g z ∷ rs) w =
+    let v = twosBits 14 z in
+    fit-next 5 g (bits 14 v ∷ biasFields rs) (signal-fits e g (w .0 .known)) (fit-next 14 v (biasFields rs) (twos-bits-lt 14 (omega arith) z (w .0 .fits)) (fit-biases e rs (w .1)))
 
 fit-satellite : (e a : ℕ) (rs : List Rec1059) → a < 64 → length rs ≤ 31 → Every (Writable e) rs → Fit (satelliteFields a rs)
-unfolding satelliteFields Fit
-fit-satellite e a [] l f w = tt
-fit-satellite e a (r ∷ rs) l f w = (omega arith, (omega arith, fit-biases e (r ∷ rs) w))
+unfolding satelliteFields
+fit-satellite e a [] l f w = fit-none
+fit-satellite e a (r ∷ rs) l f w =
+    let n = length (r ∷ rs) in
+    fit-next 6 a (bits 5 n ∷ biasFields (r ∷ rs)) (omega arith) (fit-next 5 n (biasFields (r ∷ rs)) (omega arith) (fit-biases e (r ∷ rs) w))
 
 -- ---- what is written fits its fields: the block
 
@@ -157,8 +161,8 @@ thin a n rs h =
     (ltb-false 31 (length (ofSatellite a rs)) (r .0), r .1)
 
 fit-satellites : (e n a : ℕ) (rs : List Rec1059) → a + n ≤ 64 → crowded a n rs ≡ fine → Every (Writable e) rs → Fit (satellitesFrom a n rs)
-unfolding satellitesFrom Fit
-fit-satellites e zero a rs l c w = tt
+unfolding satellitesFrom
+fit-satellites e zero a rs l c w = fit-none
 fit-satellites e (suc n) a rs l c w =
     let t = thin a n rs c in
     fit-append (satelliteFields a (ofSatellite a rs)) (satellitesFrom (suc a) n rs)
@@ -175,5 +179,6 @@ present-le a (suc n) rs = go (eqb (length (ofSatellite a rs)) 0) (present-le (su
     go false h = omega arith
 
 pub fields-fit : (e : ℕ) (rs : List Rec1059) → Fine e rs → Fit (fields1059 rs)
-unfolding fields1059 Fit
-fields-fit e rs w = (omega (arith, present-le 0 64 rs, w .fewer), fit-satellites e 64 0 rs (omega arith) (w .thin) (w .clean))
+unfolding fields1059
+fields-fit e rs w =
+    fit-next 6 (present 0 64 rs) (satellitesFrom 0 64 rs) (omega (arith, present-le 0 64 rs, w .fewer)) (fit-satellites e 64 0 rs (omega arith) (w .thin) (w .clean))

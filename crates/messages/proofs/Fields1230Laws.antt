@@ -12,7 +12,7 @@ use lib.ListN.{length, getD}
 use lib.IntN.{ℤ, pos}
 use Rattle.bits.specs.Signed.{twosBits}
 use Rattle.bits.specs.Fields.{bits, total}
-use Rattle.bits.proofs.FieldsLaws.{total-append}
+use Rattle.bits.proofs.FieldsLaws.{total-append, total-none, total-next}
 use Rattle.messages.specs.Records.{Rec1230, rec1230, records1230}
 use Rattle.messages.specs.Read1230.{maskSignals}
 use Rattle.messages.specs.Writer.{fine, keep, firstFault, isAmong}
@@ -81,9 +81,9 @@ laid gs zs m e = ap (λ (k : ℕ). bits 4 k ∷ inMaskOrder maskSignals (records
 -- ---- bits
 
 total-16 : (zs : List ℤ) → total (biasFields16 zs) ≡ length zs * 16
-unfolding total biasFields16
-total-16 [] = refl
-total-16 (z ∷ zs) = omega (arith, total-16 zs)
+unfolding biasFields16
+total-16 [] = total-none
+total-16 (z ∷ zs) = omega (arith, total-next 16 (twosBits 16 z) (biasFields16 zs), total-16 zs)
 
 -- the biases of all four signals
 four : List Rec1230 → ℕ
@@ -106,12 +106,12 @@ all-four k (g ∷ gs) (z ∷ zs) l e =
 
 -- 4 bits of the mask, and 16 of each record
 pub bits-is : (gs : List ℕ) (zs : List ℤ) → length gs ≡ length zs → firstFault fault1230 0 gs ≡ fine → total (fields1230 (records1230 gs zs)) ≡ 4 + length gs * 16
-unfolding total fields1230 inMaskOrder four
+unfolding fields1230 inMaskOrder four
 bits-is gs zs l e =
     let rs = records1230 gs zs in
     let a = biasFields16 (ofSignal 2 rs) in
     let b = biasFields16 (ofSignal 3 rs) in
     let c = biasFields16 (ofSignal 8 rs) in
     let d = biasFields16 (ofSignal 9 rs) in
-    let t : total (fields1230 rs) ≡ 4 + total (a ++ (b ++ (c ++ (d ++ [])))) = refl in
-    omega (arith, total-append a (b ++ (c ++ (d ++ []))), total-append b (c ++ (d ++ [])), total-append c (d ++ []), total-append d [], total-16 (ofSignal 2 rs), total-16 (ofSignal 3 rs), total-16 (ofSignal 8 rs), total-16 (ofSignal 9 rs), all-four 0 gs zs l e)
+    let t : total (fields1230 rs) ≡ 4 + total (a ++ (b ++ (c ++ (d ++ [])))) = total-next 4 (maskOf maskSignals rs) (a ++ (b ++ (c ++ (d ++ [])))) in
+    omega (arith, total-append a (b ++ (c ++ (d ++ []))), total-append b (c ++ (d ++ [])), total-append c (d ++ []), total-append d [], total-none, total-16 (ofSignal 2 rs), total-16 (ofSignal 3 rs), total-16 (ofSignal 8 rs), total-16 (ofSignal 9 rs), all-four 0 gs zs l e)

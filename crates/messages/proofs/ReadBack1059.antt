@@ -11,8 +11,8 @@ use lib.IntN.{ℤ}
 use lib.Dec.{eqb}
 use Rattle.bits.specs.Told.{Accepted}
 use Rattle.bits.specs.Field.{reading}
-use Rattle.bits.specs.Fields.{Field, total, Holds}
-use Rattle.bits.proofs.FieldsLaws.{total-append, holds-append}
+use Rattle.bits.specs.Fields.{Field, total, Holds, bits}
+use Rattle.bits.proofs.FieldsLaws.{total-append, holds-append, total-none, total-next, holds-first, holds-rest}
 use Rattle.messages.specs.Every.{Every}
 use Rattle.messages.specs.Reader.{many}
 use Rattle.messages.specs.Records.{Rec1059, records1059}
@@ -29,14 +29,18 @@ module _ (t : List ℕ) (few : length t ≤ 1023) where
   -- a satellite that stands there is read
   satellite-reads : (a : ℕ) (rs : List Rec1059) (p : ℕ) → 1 ≤ length rs → Every (Own a) rs → Holds t p (satelliteFields a rs)
       → p + total (satelliteFields a rs) ≤ length t * 8 → satelliteAt t p ≡ Accepted (reading rs (p + total (satelliteFields a rs)))
-  unfolding satelliteAt satelliteFields Holds total
+  unfolding satelliteAt satelliteFields
   satellite-reads a [] p some o h l = absurd (omega arith)
   satellite-reads a (r ∷ rs) p some o h l =
-      let n : p + 6 + 5 + total (biasFields (r ∷ rs)) ≡ p + (6 + (5 + total (biasFields (r ∷ rs)))) = omega arith in
+      let k = length (r ∷ rs) in
+      let fs = biasFields (r ∷ rs) in
+      let rest = holds-rest t p 6 a (bits 5 k ∷ fs) h in
+      let m : total (bits 6 a ∷ bits 5 k ∷ fs) ≡ 6 + (5 + total fs) = total-next 6 a (bits 5 k ∷ fs) ∙ ap (λ (n : ℕ). 6 + n) (total-next 5 k fs) in
+      let n : p + 6 + 5 + total fs ≡ p + total (bits 6 a ∷ bits 5 k ∷ fs) = omega arith in
       field-then (λ v. v) t p 6 _ few (omega arith) (omega arith) (omega arith)
       ∙ field-then (λ v. v) t (p + 6) 5 _ few (omega arith) (omega arith) (omega arith)
-      ∙ ap₂ (λ (b k : ℕ). many (biasAt t b) k (p + 6 + 5)) (h .0) (h .1 .0)
-      ∙ biases-read t a few (r ∷ rs) (p + 6 + 5) o (h .1 .1) (omega arith)
+      ∙ ap₂ (λ (b k : ℕ). many (biasAt t b) k (p + 6 + 5)) (holds-first t p 6 a (bits 5 k ∷ fs) h) (holds-first t (p + 6) 5 k fs rest)
+      ∙ biases-read t a few (r ∷ rs) (p + 6 + 5) o (holds-rest t (p + 6) 5 k fs rest) (omega arith)
       ∙ ap (λ (k : ℕ). Accepted (reading (r ∷ rs) k)) n
 
   -- and so are the satellites behind it
@@ -57,20 +61,23 @@ module _ (t : List ℕ) (few : length t ≤ 1023) where
 
   satellites-read : (e : ℕ) (rs : List Rec1059) → Every (Writable e) rs → (n a p : ℕ) → Holds t p (satellitesFrom a n rs) → p + total (satellitesFrom a n rs) ≤ length t * 8
       → many (satelliteAt t) (present a n rs) p ≡ Accepted (reading (recordsFrom a n rs) (p + total (satellitesFrom a n rs)))
-  unfolding satellitesFrom present recordsFrom total
-  satellites-read e rs w zero a p h l = many-none (satelliteAt t) p ∙ ap (λ (n : ℕ). Accepted (reading [] n)) (sym (add-zero p))
+  unfolding satellitesFrom present recordsFrom
+  satellites-read e rs w zero a p h l = many-none (satelliteAt t) p ∙ ap (λ (n : ℕ). Accepted (reading [] n)) (sym (ap (λ (n : ℕ). p + n) total-none ∙ add-zero p))
   satellites-read e rs w (suc n) a p h l =
       one-more a (ofSatellite a rs) (recordsFrom (suc a) n rs) (present (suc a) n rs) p (satellitesFrom (suc a) n rs) (of-writable e a rs w .1) h l
       (λ q. satellites-read e rs w n (suc a) q)
 
   block-reads : (e : ℕ) (rs : List Rec1059) → Every (Writable e) rs → (p : ℕ) → Holds t p (fields1059 rs) → p + total (fields1059 rs) ≤ length t * 8
       → block1059 t p ≡ Accepted (reading (inOrder1059 rs) (p + total (fields1059 rs)))
-  unfolding block1059 fields1059 Holds total
+  unfolding block1059 fields1059
   block-reads e rs w p h l =
-      let n : p + 6 + total (satellitesFrom 0 64 rs) ≡ p + (6 + total (satellitesFrom 0 64 rs)) = omega arith in
+      let k = present 0 64 rs in
+      let fs = satellitesFrom 0 64 rs in
+      let m : total (bits 6 k ∷ fs) ≡ 6 + total fs = total-next 6 k fs in
+      let n : p + 6 + total fs ≡ p + total (bits 6 k ∷ fs) = omega arith in
       field-then (λ v. v) t p 6 _ few (omega arith) (omega arith) (omega arith)
-      ∙ ap (λ (k : ℕ). many (satelliteAt t) k (p + 6)) (h .0)
-      ∙ satellites-read e rs w 64 0 (p + 6) (h .1) (omega arith)
+      ∙ ap (λ (k : ℕ). many (satelliteAt t) k (p + 6)) (holds-first t p 6 k fs h)
+      ∙ satellites-read e rs w 64 0 (p + 6) (holds-rest t p 6 k fs h) (omega arith)
       ∙ ap (λ (k : ℕ). Accepted (reading (inOrder1059 rs) k)) n
 
 -- a block that was written is there

@@ -8,7 +8,9 @@ use lib.ListN.{length}
 use lib.IntN.{ℤ}
 use Rattle.bits.specs.Told.{Accepted}
 use Rattle.bits.specs.Field.{field, reading}
-use Rattle.bits.specs.Fields.{total, Holds, Fit}
+use Rattle.bits.specs.Signed.{twosBits}
+use Rattle.bits.specs.Fields.{total, Holds, Fit, bits}
+use Rattle.bits.proofs.FieldsLaws.{total-next, holds-first, holds-rest, fit-none, fit-next}
 use Rattle.bits.proofs.SignedLaws.{twos-bits-lt}
 use Rattle.messages.specs.Every.{Every}
 use Rattle.messages.specs.Records.{Rec1230, rec1230, biasOf1230, records1230}
@@ -31,26 +33,31 @@ raw-fits (g ∷ gs) [] f = tt
 raw-fits (g ∷ gs) (z ∷ zs) f = (all-fit z (f .0 .sfits), raw-fits gs zs (f .1))
 
 fit-biases : (rs : List Rec1230) → Every Fits rs → Fit (biasFields16 (map biasOf1230 rs))
-unfolding biasFields16 Fit
-fit-biases [] f = tt
-fit-biases (rec1230 g z ∷ rs) f = (twos-bits-lt 16 (omega arith) z (f .0), fit-biases rs (f .1))
+unfolding biasFields16
+fit-biases [] f = fit-none
+fit-biases (rec1230 g z ∷ rs) f = fit-next 16 (twosBits 16 z) (biasFields16 (map biasOf1230 rs)) (twos-bits-lt 16 (omega arith) z (f .0)) (fit-biases rs (f .1))
 
 module _ (rs : List Rec1230) (fits : Every Fits rs) where
   fields-fit : Fit (fields1230 rs)
-  unfolding fields1230 Fit
-  fields-fit = (mask-lt rs maskSignals, rw (order-biases rs maskSignals) (fit-biases (inOrder1230 rs) (order-fits rs maskSignals fits)))
+  unfolding fields1230
+  fields-fit =
+      fit-next 4 (maskOf maskSignals rs) (inMaskOrder maskSignals rs) (mask-lt rs maskSignals)
+      (rw (order-biases rs maskSignals) (fit-biases (inOrder1230 rs) (order-fits rs maskSignals fits)))
 
   block-reads : (t : List ℕ) (p : ℕ) → length t ≤ 1023 → ((g : ℕ) → length (ofSignal g rs) ≤ 1) → Holds t p (fields1230 rs) → p + total (fields1230 rs) ≤ length t * 8
       → block1230 t p ≡ Accepted (reading (inOrder1230 rs) (p + total (fields1230 rs)))
-  unfolding block1230 fields1230 Holds total
+  unfolding block1230 fields1230
   block-reads t p few one h l =
       let ys = inOrder1230 rs in
+      let k = maskOf maskSignals rs in
+      let fs = inMaskOrder maskSignals rs in
+      let long : total (bits 4 k ∷ fs) ≡ 4 + total fs = total-next 4 k fs in
       let o = order-biases rs maskSignals in
-      let m : field t p 4 % 2 ^ 4 ≡ maskOf maskSignals rs = ap (λ (x : ℕ). x % 2 ^ 4) (h .0) ∙ mod-eq-of-lt (mask-lt rs maskSignals) in
-      let n : p + 4 + total (biasFields16 (map biasOf1230 ys)) ≡ p + (4 + total (inMaskOrder maskSignals rs)) = omega (arith, ap total o) in
+      let m : field t p 4 % 2 ^ 4 ≡ maskOf maskSignals rs = ap (λ (x : ℕ). x % 2 ^ 4) (holds-first t p 4 k fs h) ∙ mod-eq-of-lt (mask-lt rs maskSignals) in
+      let n : p + 4 + total (biasFields16 (map biasOf1230 ys)) ≡ p + total (bits 4 k ∷ fs) = omega (arith, ap total o) in
       field-then (λ v. v) t p 4 _ few (omega arith) (omega arith) (omega arith)
       ∙ ap (λ (gs : List ℕ). biasesAt t gs (p + 4)) (sym (order-signals rs one maskSignals (field t p 4) m))
-      ∙ biases-read t few ys (p + 4) (order-fits rs maskSignals fits) (subst (Holds t (p + 4)) o (h .1)) (omega arith)
+      ∙ biases-read t few ys (p + 4) (order-fits rs maskSignals fits) (subst (Holds t (p + 4)) o (holds-rest t p 4 k fs h)) (omega arith)
       ∙ ap (λ (k : ℕ). Accepted (reading ys k)) n
 
 -- a block that was written is there

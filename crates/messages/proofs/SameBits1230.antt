@@ -10,6 +10,7 @@ use Rattle.bits.specs.Told.{Accepted}
 use Rattle.bits.specs.Outcome.{outcome}
 use Rattle.bits.specs.Field.{field, reading}
 use Rattle.bits.specs.Fields.{Field, bits, total, putAll, Holds}
+use Rattle.bits.proofs.FieldsLaws.{total-next, holds-next}
 use Rattle.bits.proofs.FieldLaws.{field-lt}
 use Rattle.messages.specs.Every.{Every}
 use Rattle.messages.specs.Records.{Rec1230, rec1230, signalOf1230, biasOf1230, records1230}
@@ -46,7 +47,7 @@ none-seen g = refl
 -- a block that stands in s is written into any data that has room for it
 pub block-back-1230 : (s : List ℕ) (p : ℕ) {q : ℕ} (rs : List Rec1230) → block1230 s p ≡ Accepted (reading rs q) → (t : List ℕ) (r : ℕ) → length t ≤ 1023
     → r + (q - p) ≤ length t * 8 → WrittenBack s p q r (write1230 t r (map signalOf1230 rs) (map biasOf1230 rs))
-unfolding block1230 fields1230 Holds total
+unfolding block1230 fields1230
 block-back-1230 s p {q} rs h t r few room =
     let a = field-accepted (λ v. v) s p 4 _ h in
     let m = field s p 4 in
@@ -54,8 +55,8 @@ block-back-1230 s p {q} rs h t r few room =
     let n = named maskSignals m rs different (b .signals) in
     let low : m % 2 ^ 4 ≡ m = mod-eq-of-lt (field-lt s p 4) in
     let f : fields1230 rs ≡ bits 4 m ∷ biasFields16 (map biasOf1230 rs) = ap₂ (λ (x : ℕ) (fs : List Field). bits 4 x ∷ fs) (n .mask ∙ low) (n .order) in
-    let long : total (fields1230 rs) ≡ q - p = ap total f ∙ omega (arith, b .ends) in
-    let stands : Holds s p (fields1230 rs) = subst (Holds s p) (sym f) (refl, b .holds) in
+    let long : total (fields1230 rs) ≡ q - p = ap total f ∙ omega (arith, b .ends, total-next 4 m (biasFields16 (map biasOf1230 rs))) in
+    let stands : Holds s p (fields1230 rs) = subst (Holds s p) (sym f) (holds-next s p 4 m (biasFields16 (map biasOf1230 rs)) refl (b .holds)) in
     let unlike : Different (map signalOf1230 rs) = rw (b .signals) (masked-different m maskSignals different) in
     let w : Writes t r (map signalOf1230 rs) (map biasOf1230 rs) =
     record {
