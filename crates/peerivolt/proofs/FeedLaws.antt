@@ -1,22 +1,24 @@
 -- WHAT `pv_feed` PROMISES A C PROGRAM: demand 3 and the sum, by its number, its eight numbers and its two areas, in every mode. Assumes nothing.
-use mathlib.Core.Path.{_≡_, refl, sym, ap, _∙_}
-use mathlib.Core.Bool.{Bool, true, false, cond, not}
-use mathlib.Core.List.{List, [], _∷_, flatten}
-use Prim.Native.Nat.{ℕ, _+_, _-_, _^_}
+use mathlib.Core.Path.{_≡_, refl, sym, ap, subst, _∙_}
+use mathlib.Core.Bool.{Bool, true, false}
+use mathlib.Core.List.{List, flatten}
+use Prim.Native.Nat.{ℕ, _+_, _-_, _^_, _≤_}
 use native.Mathlib.Omega.{arith}
 use lib.ListN.{length, take, getD}
 use lib.Dec.{eqb, ltb}
-use Rattle.bits.specs.Told.{Told, Accepted, Refused, size, state, room}
-use Rattle.bits.specs.Outcome.{outcome, refusing}
-use Rattle.frames.specs.Rtcm.{Kind, Rtcm, Ubx}
+use borrow.Author.Tests.{eqb-true, eqb-false, ltb-true, ltb-false}
+use Rattle.bits.specs.Told.{Told, Accepted, Refused}
+use Rattle.bits.specs.Outcome.{outcome}
+use Rattle.frames.specs.Rtcm.{Why, Kind, Rtcm, Ubx}
 use Rattle.frames.specs.Modes.{framingOf}
-use Rattle.frames.specs.Framing.{decide}
+use Rattle.frames.specs.Framing.{Framing, decide}
 use Rattle.frames.specs.Scan.{Handed, scan, framed, placed, skipsBefore}
 use Rattle.frames.specs.Feed as fed
 use Rattle.frames.specs.Feed.{Fed, feed}
 use Rattle.frames.specs.Call.{Scanner, FedAnswer, More, Frame, FedOutcome, called, feedOf}
 use Rattle.frames.specs.Offered as frames
 use Rattle.frames.specs.Offered.{Scans}
+use Rattle.frames.proofs.CallLaws.{wrong-area, wrong-count, over-taken, over-limit, wrong-mode, long-piece, past-limit, small-output, accepted}
 use Rattle.frames.proofs.AnswerLaws.{more-keeps, frame-keeps}
 use Rattle.frames.proofs.PlaceLaws.{skipped-places}
 use Rattle.frames.proofs.ModeLaws.{lawful, demand, sum}
@@ -34,33 +36,52 @@ called-nonzero : {W : Type 0} (G : Fed W Kind) (x : Scanner) (a o : List ℕ) �
 called-nonzero (fed.More t is g) x a o = tt
 called-nonzero (fed.Frame t is k f g) x a o = tt
 
-module _ (areas : List ℕ × List ℕ) (onward : List ℕ → FedOutcome Kind) where
-  refusal-nonzero : (c : Bool) (n : ℕ) (cs : List ℕ) (x : Told (List ℕ)) → (n ≡ 0 → ⊥) → Nonzero (refusing areas x onward .answer) → Nonzero (refusing areas (cond c (Refused n cs) x) onward .answer)
-  refusal-nonzero true n cs x z h = z
-  refusal-nonzero false n cs x z h = h
-
 module _ (mode : ℕ) (a : List ℕ) (x : Scanner) (p o : List ℕ) where
-  nonzero : Nonzero (feedOf (framingOf mode) a x p o .answer)
-  unfolding feedOf
-  nonzero =
-      let onward : List ℕ → FedOutcome Kind = λ h. called (feed (decide (framingOf mode)) h p) x a o in
-      let l0 : Told (List ℕ) = Accepted (take (x .count) a) in
-      let l1 : Told (List ℕ) = cond (ltb (length o) 1029) (room 1029) l0 in
-      let l2 : Told (List ℕ) = cond (ltb (2 ^ 48) (x .taken + length p)) size l1 in
-      let l3 : Told (List ℕ) = cond (ltb 65536 (length p)) size l2 in
-      let l4 : Told (List ℕ) = cond (ltb 1 (x .mode)) state l3 in
-      let l5 : Told (List ℕ) = cond (ltb (2 ^ 48) (x .taken)) state l4 in
-      let l6 : Told (List ℕ) = cond (ltb (x .taken) (x .count)) state l5 in
-      let l7 : Told (List ℕ) = cond (ltb 1029 (x .count)) state l6 in
-      refusal-nonzero (a, o) onward (not (eqb (length a) 1029)) 9 [] l7 (λ k. omega arith)
-      (refusal-nonzero (a, o) onward (ltb 1029 (x .count)) 11 [] l6 (λ k. omega arith)
-      (refusal-nonzero (a, o) onward (ltb (x .taken) (x .count)) 11 [] l5 (λ k. omega arith)
-      (refusal-nonzero (a, o) onward (ltb (2 ^ 48) (x .taken)) 11 [] l4 (λ k. omega arith)
-      (refusal-nonzero (a, o) onward (ltb 1 (x .mode)) 11 [] l3 (λ k. omega arith)
-      (refusal-nonzero (a, o) onward (ltb 65536 (length p)) 9 [] l2 (λ k. omega arith)
-      (refusal-nonzero (a, o) onward (ltb (2 ^ 48) (x .taken + length p)) 9 [] l1 (λ k. omega arith)
-      (refusal-nonzero (a, o) onward (ltb (length o) 1029) 8 (1029 ∷ []) l0 (λ k. omega arith)
-      (called-nonzero (feed (decide (framingOf mode)) (take (x .count) a) p) x a o))))))))
+  abbrev F : Framing Why Kind
+  F = framingOf mode
+
+  by : (w : FedOutcome Kind) → feedOf F a x p o ≡ w → Nonzero (w .answer) → Nonzero (feedOf F a x p o .answer)
+  by w e h = subst (λ (x : FedOutcome Kind). Nonzero (x .answer)) (sym e) h
+
+  -- one refusal after the other: each has its number, and past them the call is accepted
+  module _ (area : length a ≡ 1029) where
+    module _ (count : x .count ≤ 1029) (held : x .count ≤ x .taken) (taken : x .taken ≤ 2 ^ 48) (known : x .mode ≤ 1) where
+      past-piece : length p ≤ 65536 → x .taken + length p ≤ 2 ^ 48 → (b : Bool) → ltb (length o) 1029 ≡ b → Nonzero (feedOf F a x p o .answer)
+      past-piece l m true e = by _ (small-output F a x p o area count held taken known l m (ltb-true (length o) 1029 e)) (λ k. omega arith)
+      past-piece l m false e =
+          by _ (accepted F a x p o (record { area = area; count = count; held = held; taken = taken; mode = known; piece = l; limit = m; output = ltb-false (length o) 1029 e }))
+          (called-nonzero (feed (decide F) (take (x .count) a) p) x a o)
+
+      past-length : length p ≤ 65536 → (b : Bool) → ltb (2 ^ 48) (x .taken + length p) ≡ b → Nonzero (feedOf F a x p o .answer)
+      past-length l true e = by _ (past-limit F a x p o area count held taken known l (ltb-true (2 ^ 48) (x .taken + length p) e)) (λ k. omega arith)
+      past-length l false e = past-piece l (ltb-false (2 ^ 48) (x .taken + length p) e) (ltb (length o) 1029) refl
+
+      past-state : (b : Bool) → ltb 65536 (length p) ≡ b → Nonzero (feedOf F a x p o .answer)
+      past-state true e = by _ (long-piece F a x p o area count held taken known (ltb-true 65536 (length p) e)) (λ k. omega arith)
+      past-state false e = past-length (ltb-false 65536 (length p) e) (ltb (2 ^ 48) (x .taken + length p)) refl
+
+    past-taken : x .count ≤ 1029 → x .count ≤ x .taken → x .taken ≤ 2 ^ 48 → (b : Bool) → ltb 1 (x .mode) ≡ b → Nonzero (feedOf F a x p o .answer)
+    past-taken c d t true e = by _ (wrong-mode F a x p o area c d t (ltb-true 1 (x .mode) e)) (λ k. omega arith)
+    past-taken c d t false e = past-state c d t (ltb-false 1 (x .mode) e) (ltb 65536 (length p)) refl
+
+    past-held : x .count ≤ 1029 → x .count ≤ x .taken → (b : Bool) → ltb (2 ^ 48) (x .taken) ≡ b → Nonzero (feedOf F a x p o .answer)
+    past-held c d true e = by _ (over-limit F a x p o area c d (ltb-true (2 ^ 48) (x .taken) e)) (λ k. omega arith)
+    past-held c d false e = past-taken c d (ltb-false (2 ^ 48) (x .taken) e) (ltb 1 (x .mode)) refl
+
+    past-count : x .count ≤ 1029 → (b : Bool) → ltb (x .taken) (x .count) ≡ b → Nonzero (feedOf F a x p o .answer)
+    past-count c true e = by _ (over-taken F a x p o area c (ltb-true (x .taken) (x .count) e)) (λ k. omega arith)
+    past-count c false e = past-held c (ltb-false (x .taken) (x .count) e) (ltb (2 ^ 48) (x .taken)) refl
+
+    past-area : (b : Bool) → ltb 1029 (x .count) ≡ b → Nonzero (feedOf F a x p o .answer)
+    past-area true e = by _ (wrong-count F a x p o area (ltb-true 1029 (x .count) e)) (λ k. omega arith)
+    past-area false e = past-count (ltb-false 1029 (x .count) e) (ltb (x .taken) (x .count)) refl
+
+  nonzero : Nonzero (feedOf F a x p o .answer)
+  nonzero = go (eqb (length a) 1029) refl
+    where
+      go : (b : Bool) → eqb (length a) 1029 ≡ b → Nonzero (feedOf F a x p o .answer)
+      go false e = by _ (wrong-area F a x p o (eqb-false (length a) 1029 e)) (λ k. omega arith)
+      go true e = past-area (eqb-true (length a) 1029 e) (ltb 1029 (x .count)) refl
 
 -- ---- from the eight numbers back to the answer
 
