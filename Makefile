@@ -40,7 +40,7 @@ ANSWERS := c/data/answers.hex
 RATTLE_FILES := crates.txt $(shell find crates -name must-fail -prune -o -type f \( -name '*.rt' -o -name '*.antt' \) -print)
 
 .PHONY: all install check relay bench bench-run differential differential-faults lint clean
-.PHONY: check-papers check-header check-opt check-san check-valgrind check-cpp check-exports check-relay check-install
+.PHONY: check-papers check-header check-opt check-san check-valgrind check-cpp check-exports check-relay check-install check-programs
 
 all: libpeerivolt.a libpeerivolt.so
 
@@ -157,7 +157,7 @@ relay: $(B)/opt/relay
 
 # ---- Checks.
 
-check: check-papers check-header check-opt check-san check-cpp check-exports check-relay check-install check-valgrind
+check: check-papers check-header check-opt check-san check-cpp check-exports check-relay check-install check-programs check-valgrind
 	@echo "make check: passed ($(LIB))"
 
 # The pages: every rule has a row that says what meets it.
@@ -223,6 +223,14 @@ check-relay: $(foreach name,relay $(HELPERS),$(B)/opt/$(name) $(B)/san/$(name))
 check-install: $(ARCHIVE) $(SHARED)
 	@$(MAKE) --no-print-directory install LIB=$(LIB) DESTDIR= PREFIX=$(abspath $(B))/prefix >/dev/null
 	CC='$(CC)' SONAME=$(SONAME) VERSION=$(VERSION) c/test_install.sh $(abspath $(B))/prefix c/example.c $(call recording,rtcm3-3.bin) 200
+
+# The programs of crates/, where `rt check` or the gate has built them.
+check-programs:
+	@if [ -x target/bin/rtcm_scan ] && [ -x target/bin/rtcm_biases ]; then \
+	    c/test_programs.sh $(CURDIR)/target/bin $(CURDIR)/c/data $(VERSION); \
+	else \
+	    echo "programs: skipped, since rt check has not built them here"; \
+	fi
 
 # ---- Installing.
 

@@ -1,7 +1,7 @@
-// Text that is gathered in a lent area and written to standard output in large pieces.
+// Text that is gathered in a lent area and then written to standard output.
 //
 // The first `at` bytes of the area wait to be written. Where more do not fit behind them they are written first, so that
-// no byte is lost. `specs/` says what each function leaves in the area.
+// no byte is lost; a program that is to stop where its output cannot be written flushes before that. `specs/` says what each function leaves in the area.
 ghost use mathlib.Core.Path.{_≡_};
 ghost use Prim.Native.Nat.{_+_, _≤_, min};
 ghost use lib.ListN.{length};
@@ -11,6 +11,7 @@ ghost use Rattle.printing.specs.Gathered.{gathered, add, blank};
 
 mod number;
 
+use libc::STDOUT_FILENO;
 pub use number::Amount;
 pub use number::amount_of;
 pub use number::hundredths;
@@ -35,7 +36,7 @@ pub fn text(out: &mut [u8; 65536], at: &mut usize, words: &[u8])
         *at = n;
         return;
     }
-    io::write_all(1, words);
+    write(words);
 }
 
 // Adds so many blanks, at most 64.
@@ -46,17 +47,26 @@ pub fn blanks(out: &mut [u8; 65536], at: &mut usize, n: usize)
     text(out, at, &line[0..least(n, 64)]);
 }
 
-// Writes what waits.
-pub fn flush(out: &[u8; 65536], at: &mut usize)
+// Writes what waits. Where it cannot be written, that is said on standard error, and the answer is false.
+pub fn flush(out: &[u8; 65536], at: &mut usize) -> bool
     ensures { λ _. ⌜ now (at .exit) ≡ 0 ⌝ }
 {
-    write_first(out, *at);
+    let n = *at;
     *at = 0;
+    write_first(out, n)
 }
 
 // Writes the first n bytes, or all if there are fewer.
-fn write_first(out: &[u8], n: usize) {
-    io::write_all(1, &out[0..least(n, out.len())]);
+fn write_first(out: &[u8], n: usize) -> bool {
+    write(&out[0..least(n, out.len())])
+}
+
+fn write(words: &[u8]) -> bool {
+    if io::write_all(STDOUT_FILENO, words) {
+        return true;
+    }
+    os::fail(b"standard output");
+    false
 }
 
 // Whether n bytes fit behind those that wait.

@@ -1,15 +1,20 @@
 // The arguments of a program that goes through recordings, and what it says of them on standard error.
 ghost use mathlib.Core.Path.{_≡_};
-ghost use Rattle.reading.specs.Arguments.{IsKind, Descriptor};
+ghost use Rattle.reading.specs.Arguments.{IsKind, IsOperand, Descriptor};
 use crate::Account;
 use check::same;
 use libc::STDERR_FILENO;
+use libc::STDOUT_FILENO;
 
 // What an argument is. An option begins with `-`; `-` alone is standard input; any other word names a file.
 pub enum Kind {
+    // `--help` or `-h`.
     Help,
+    Version,
     // The program's own option.
     Own,
+    // `--`: each word behind it names a recording.
+    Rest,
     Unknown,
     Input,
     File,
@@ -22,8 +27,17 @@ pub fn kind_of(word: &[u8], own: &[u8]) -> Kind
     if same(word, b"--help") {
         return Kind::Help;
     }
+    if same(word, b"-h") {
+        return Kind::Help;
+    }
+    if same(word, b"--version") {
+        return Kind::Version;
+    }
     if same(word, own) {
         return Kind::Own;
+    }
+    if same(word, b"--") {
+        return Kind::Rest;
     }
     if same(word, b"-") {
         return Kind::Input;
@@ -33,6 +47,16 @@ pub fn kind_of(word: &[u8], own: &[u8]) -> Kind
     }
     if word[0] == b'-' {
         return Kind::Unknown;
+    }
+    Kind::File
+}
+
+// What a word behind `--` is: standard input or a file.
+pub fn operand_of(word: &[u8]) -> Kind
+    ensures { λ r. ⌜ IsOperand (now (word .entry)) r ⌝ }
+{
+    if same(word, b"-") {
+        return Kind::Input;
     }
     Kind::File
 }
@@ -78,6 +102,21 @@ pub fn empty(name: &[u8], account: Account)
     if account.bytes == 0 {
         say(name, b": is empty\n");
     }
+}
+
+// Says that the program failed, on the last line. Its exit status is 0 whatever happens.
+pub fn failed(program: &[u8])
+    ensures { λ r. ⌜ r ≡ tt ⌝ }
+{
+    say(program, b": failed\n");
+}
+
+// Writes the program's name and its version, that of the library.
+pub fn version(program: &[u8])
+    ensures { λ r. ⌜ r ≡ tt ⌝ }
+{
+    io::write_all(STDOUT_FILENO, program);
+    io::write_all(STDOUT_FILENO, b" 0.2.0\n");
 }
 
 fn say(name: &[u8], words: &[u8]) {

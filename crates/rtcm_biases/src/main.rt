@@ -3,11 +3,20 @@ mod options;
 mod table;
 
 use frames::frame;
-use options::Start;
+use options::Settings;
 use reading::Step;
 use reading::arguments;
 use reading::arguments::Kind;
 use table::Tally;
+
+// What a recording came to.
+enum End {
+    Well,
+    // It could not be read to its end.
+    Failed,
+    // The output cannot be written: the program stops.
+    Stopped,
+}
 
 fn main() {
     let asked = options::all();
@@ -15,89 +24,101 @@ fn main() {
         options::help();
         return;
     }
-    if asked.unknown != 0 {
-        arguments::unknown(b"rtcm_biases", asked.unknown);
+    if asked.version {
+        arguments::version(b"rtcm_biases");
         return;
     }
-    if asked.wrong {
-        options::wrong_number();
+    if asked.wrong != 0 {
+        options::say_wrong(asked.wrong, asked.rest);
+        arguments::failed(b"rtcm_biases");
         return;
     }
     if asked.file == 0 {
         arguments::no_file(b"rtcm_biases");
+        arguments::failed(b"rtcm_biases");
         return;
     }
-    show_all();
+    if !show_all(asked.rest) {
+        arguments::failed(b"rtcm_biases");
+    }
 }
 
-// Shows what the arguments name, one after another.
-fn show_all() {
+// Shows what the arguments name, one after another, and answers whether all went well.
+fn show_all(rest: usize) -> bool {
     let mut out = io::large_buffer();
     let mut at: usize = 0;
-    let mut start = Start::Usual;
-    let mut edition: u32 = 1;
+    let mut is_well = true;
+    let mut settings = options::usual();
     let count = os::arg_count();
     let mut i: usize = 1;
     while i < count {
-        start = show_argument(i, start, edition, &mut out, &mut at);
-        edition = options::edition_after(i, edition);
+        settings = options::settings_at(i, rest, settings);
+        match show_argument(i, rest, settings, &mut out, &mut at) {
+            End::Well => {}
+            End::Failed => {
+                is_well = false;
+            }
+            End::Stopped => {
+                return false;
+            }
+        }
         i += 1;
     }
+    is_well
 }
 
-// Shows what argument i names, and hands back where blocks start from there on.
+// Shows what argument i names, if it names a recording.
 fn show_argument(
     i: usize,
-    start: Start,
-    edition: u32,
+    rest: usize,
+    settings: Settings,
     out: &mut [u8; 65536],
     at: &mut usize,
-) -> Start {
-    if options::is_number(i) {
-        return options::start_after(i, start);
+) -> End {
+    if options::is_number(i, rest) {
+        return End::Well;
     }
-    match options::kind_at(i) {
-        Kind::File => show_file(i, start, edition, out, at),
-        Kind::Input => show_open(0, b"standard input", start, edition, out, at),
-        _ => {}
+    match options::kind_at(i, rest) {
+        Kind::File => show_file(i, settings, out, at),
+        Kind::Input => show_open(0, b"standard input", settings, out, at),
+        _ => End::Well,
     }
-    start
 }
 
-fn show_file(i: usize, start: Start, edition: u32, out: &mut [u8; 65536], at: &mut usize) {
+fn show_file(i: usize, settings: Settings, out: &mut [u8; 65536], at: &mut usize) -> End {
     let mut path = io::buffer();
     let n = os::arg(i, &mut path);
     let fd = arguments::open(&path[..n]);
     if fd < 0 {
-        return;
+        return End::Failed;
     }
-    show_open(fd, &path[..n], start, edition, out, at);
+    let end = show_open(fd, &path[..n], settings, out, at);
     libc::close(fd);
+    end
 }
 
 // Shows an open recording.
 fn show_open(
     fd: i32,
     name: &[u8],
-    start: Start,
-    edition: u32,
+    settings: Settings,
     out: &mut [u8; 65536],
     at: &mut usize,
-) {
-    show(fd, name, start, edition, out, at);
-    printing::flush(out, at);
+) -> End {
+    let end = show(fd, name, settings, out, at);
+    if !printing::flush(out, at) {
+        return End::Stopped;
+    }
+    end
 }
 
-// Goes through the frames.
-fn show(fd: i32, name: &[u8], start: Start, edition: u32, out: &mut [u8; 65536], at: &mut usize) {
+// Goes through the frames; the table of a block is written when its frame has arrived.
+fn show(fd: i32, name: &[u8], settings: Settings, out: &mut [u8; 65536], at: &mut usize) -> End {
     let mut held = [0u8; 1029];
     let mut piece = io::large_buffer();
     let mut bytes = [0u8; 1029];
     let mut account = reading::start();
-    let mut tally = Tally {
-        read: 0,
-        refused: 0,
-    };
+    let mut tally = table::none();
     let mut turns = u64::MAX;
     while turns > 0 {
         turns -= 1;
@@ -107,8 +128,11 @@ fn show(fd: i32, name: &[u8], start: Start, edition: u32, out: &mut [u8; 65536],
                 length,
                 account: a,
             } => {
-                tally = show_frame(&bytes, length, place, start, edition, tally, out, at);
+                tally = show_frame(&bytes, length, place, settings, tally, out, at);
                 account = a;
+                if !printing::flush(out, at) {
+                    return End::Stopped;
+                }
             }
             Step::Piece(a) => {
                 table::opening(name, account, out, at);
@@ -117,15 +141,16 @@ fn show(fd: i32, name: &[u8], start: Start, edition: u32, out: &mut [u8; 65536],
             Step::End(a) => {
                 arguments::empty(name, a);
                 table::closing(a, tally, out, at);
-                return;
+                return End::Well;
             }
             Step::Failed(a) => {
                 os::fail(name);
                 table::closing(a, tally, out, at);
-                return;
+                return End::Failed;
             }
         }
     }
+    End::Well
 }
 
 // Shows the frame, if its message is 1059 or 1230.
@@ -133,35 +158,36 @@ fn show_frame(
     bytes: &[u8; 1029],
     length: usize,
     place: u64,
-    start: Start,
-    edition: u32,
+    settings: Settings,
     tally: Tally,
     out: &mut [u8; 65536],
     at: &mut usize,
 ) -> Tally {
     let frame = reading::frame_of(bytes, length);
     let number = reading::number_of(frame);
-    let usual = usual_start(number);
-    if usual == 0 {
-        return tally;
+    if number == 1059 {
+        return table::block(
+            number,
+            frame::data_of(frame),
+            place,
+            settings.of_1059,
+            settings.edition,
+            tally,
+            out,
+            at,
+        );
     }
-    table::block(
-        number,
-        frame::data_of(frame),
-        place,
-        options::bit(start, usual),
-        edition,
-        tally,
-        out,
-        at,
-    )
-}
-
-// The data bit at which the block of a message starts as a rule; 0 for a message without one.
-fn usual_start(number: u64) -> usize {
-    match number {
-        1059 => 61,
-        1230 => 28,
-        _ => 0,
+    if number == 1230 {
+        return table::block(
+            number,
+            frame::data_of(frame),
+            place,
+            settings.of_1230,
+            settings.edition,
+            tally,
+            out,
+            at,
+        );
     }
+    tally
 }

@@ -13,10 +13,19 @@ use printing::unsigned;
 use reading::Account;
 use std::num;
 
-// How many blocks were read, and how many refused.
+// How many blocks were read, how many of them left eight or more bits unread, and how many were refused.
 pub struct Tally {
     pub read: u64,
+    pub unread: u64,
     pub refused: u64,
+}
+
+pub fn none() -> Tally {
+    Tally {
+        read: 0,
+        unread: 0,
+        refused: 0,
+    }
 }
 
 // Before the first piece: the name.
@@ -64,8 +73,9 @@ pub fn block(
         out,
         at,
     );
-    left_over(data.len(), end, out, at);
-    one_read(tally)
+    let left = left_behind(data.len(), end);
+    left_over(left, out, at);
+    one_read(tally, left)
 }
 
 // The records of 1230 have no satellite.
@@ -188,33 +198,77 @@ fn hundredths_of(number: u64, raw: Amount) -> Amount {
     }
 }
 
-// How many bits of the data are left behind the block.
-fn left_over(bytes: usize, end: usize, out: &mut [u8; 65536], at: &mut usize) {
-    if bytes <= 1023 {
-        if end <= bytes * 8 {
-            told(
-                b"    ",
-                bytes * 8 - end,
-                b" bits left over behind the block\n",
-                out,
-                at,
-            );
-        }
+// How many bits of the data are behind the block.
+fn left_behind(bytes: usize, end: usize) -> usize {
+    if 1023 < bytes {
+        return 0;
     }
+    if bytes * 8 < end {
+        return 0;
+    }
+    bytes * 8 - end
 }
 
-// Behind the last block, if anything was read: how many were read and refused.
+// The bits behind the block. A message ends with its block and fills its last byte, so eight or more are a warning.
+fn left_over(bits: usize, out: &mut [u8; 65536], at: &mut usize) {
+    told(b"    ", bits, b" bits left over behind the block", out, at);
+    if 8 <= bits {
+        text(
+            out,
+            at,
+            b": WARNING, the block may start at another data bit (--start)",
+        );
+    }
+    text(out, at, b"\n");
+}
+
+// Behind the last block, if anything was read: how many were read and refused, or why there is none.
 pub fn closing(account: Account, tally: Tally, out: &mut [u8; 65536], at: &mut usize) {
     if account.bytes == 0 {
         return;
     }
+    if account.frames == 0 {
+        text(out, at, b"  no frames\n\n");
+        return;
+    }
+    if is_none(tally) {
+        phrase(
+            out,
+            at,
+            b"  no message 1059 or 1230 in ",
+            account.frames,
+            0,
+            b" frames\n\n",
+        );
+        return;
+    }
     phrase(out, at, b"  ", tally.read, 0, b" blocks read, ");
-    phrase(out, at, b"", tally.refused, 0, b" refused\n\n");
+    phrase(out, at, b"", tally.refused, 0, b" refused");
+    if tally.unread != 0 {
+        phrase(
+            out,
+            at,
+            b"; WARNING, ",
+            tally.unread,
+            0,
+            b" leave eight or more bits unread",
+        );
+    }
+    text(out, at, b"\n\n");
 }
 
-fn one_read(tally: Tally) -> Tally {
+fn is_none(tally: Tally) -> bool {
+    if tally.read != 0 {
+        return false;
+    }
+    tally.refused == 0
+}
+
+fn one_read(tally: Tally, left: usize) -> Tally {
+    let more = if 8 <= left { 1 } else { 0 };
     Tally {
         read: num::wrapping_add_u64(tally.read, 1),
+        unread: num::wrapping_add_u64(tally.unread, more),
         refused: tally.refused,
     }
 }
@@ -222,6 +276,7 @@ fn one_read(tally: Tally) -> Tally {
 fn one_refused(tally: Tally) -> Tally {
     Tally {
         read: tally.read,
+        unread: tally.unread,
         refused: num::wrapping_add_u64(tally.refused, 1),
     }
 }

@@ -49,8 +49,8 @@ returns-2 c =
     (leb-false (a .at .now + length (a .words .now)) 65536 (sym (c .before .before .before .before .before .before .before .before .has-room .ensures) ∙ c .before .before .before .before .before .before .before .if1 .left))
     (omega (arith, leb-true (0 + length (a .words .now)) 65536 (sym (c .before .before .before .has-room2 .ensures) ∙ c .before .before .if2 .taken))))
 
-write-all-requires : tie.Need-write-all-requires
-write-all-requires c κs = search needs
+write-requires : tie.Need-write-requires
+write-requires c κs = search needs
 
 returns-3 : tie.Need-returns-3
 returns-3 c =
@@ -71,5 +71,5 @@ text-spec =
     has-room-requires-2
     put-at-requires-2
     returns-2
-    write-all-requires
+    write-requires
     returns-3)

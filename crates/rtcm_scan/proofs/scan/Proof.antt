@@ -34,14 +34,23 @@ enum-known-place c = search needs
 frame-requires : tie.Need-frame-requires Inv-loop μ-loop
 frame-requires c κs = tt
 
+shown-requires : tie.Need-shown-requires Inv-loop μ-loop
+shown-requires c κs = tt
+
+returns : tie.Need-returns Inv-loop μ-loop
+returns c =
+    let n = c .before .before .before .before .before .before .before .before .before .before .before .before .next in
+    let v = c .before .before .before .before .before .before .before .before .before .before .place .given in
+    right-frame (v .0 .1 .1 .0) (n .result) (n .ensures (c .before .before .before .before .before .before .before .before .before .before .before .before .before .before .before .before .before .loop .inv)) (v .0 .0) (v .0 .1 .0) (v .1)
+
 loop-less : tie.Need-loop-less Inv-loop μ-loop
 loop-less c = omega arith
 
 loop-again : tie.Need-loop-again Inv-loop μ-loop
 loop-again c =
-    let n = c .before .before .before .before .before .before .before .before .next in
-    let v = c .before .before .before .before .before .before .place .given in
-    right-frame (v .0 .1 .1 .0) (n .result) (n .ensures (c .before .before .before .before .before .before .before .before .before .before .before .before .before .loop .inv)) (v .0 .0) (v .0 .1 .0) (v .1)
+    let n = c .before .before .before .before .before .before .before .before .before .before .before .before .next in
+    let v = c .before .before .before .before .before .before .before .before .before .before .place .given in
+    right-frame (v .0 .1 .1 .0) (n .result) (n .ensures (c .before .before .before .before .before .before .before .before .before .before .before .before .before .before .before .before .before .loop .inv)) (v .0 .0) (v .0 .1 .0) (v .1)
 
 enum-known-a : tie.Need-enum-known-a Inv-loop μ-loop
 enum-known-a c = search needs
@@ -64,8 +73,8 @@ enum-known-a-2 c = search needs
 empty-requires : tie.Need-empty-requires Inv-loop μ-loop
 empty-requires c κs = tt
 
-returns : tie.Need-returns Inv-loop μ-loop
-returns c =
+returns-2 : tie.Need-returns-2 Inv-loop μ-loop
+returns-2 c =
     let n = c .before .before .before .before .next in
     let v = c .before .before .a2 .given in
     right-end (v .0 .0) (n .result) (n .ensures (c .before .before .before .before .before .before .before .before .before .loop .inv)) (v .1)
@@ -76,14 +85,14 @@ enum-known-a-3 c = search needs
 fail-requires : tie.Need-fail-requires Inv-loop μ-loop
 fail-requires c κs = tt
 
-returns-2 : tie.Need-returns-2 Inv-loop μ-loop
-returns-2 c =
+returns-3 : tie.Need-returns-3 Inv-loop μ-loop
+returns-3 c =
     let n = c .before .before .before .before .next in
     let v = c .before .before .a3 .given in
     right-failed (v .0 .0) (n .result) (n .ensures (c .before .before .before .before .before .before .before .before .before .loop .inv)) (v .1)
 
-returns-3 : tie.Need-returns-3 Inv-loop μ-loop
-returns-3 c = c .before .loop .inv
+returns-4 : tie.Need-returns-4 Inv-loop μ-loop
+returns-4 c = c .before .loop .inv
 
 pub scan-spec : {M : Type 1} → statement M
 scan-spec =
@@ -98,6 +107,8 @@ scan-spec =
     next-requires
     enum-known-place
     frame-requires
+    shown-requires
+    returns
     loop-less
     loop-again
     enum-known-a
@@ -106,8 +117,8 @@ scan-spec =
     loop-again-2
     enum-known-a-2
     empty-requires
-    returns
+    returns-2
     enum-known-a-3
     fail-requires
-    returns-2
-    returns-3)
+    returns-3
+    returns-4)

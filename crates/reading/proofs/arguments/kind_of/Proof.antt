@@ -1,4 +1,5 @@
 -- The words are compared in the order of the definition. Assumes nothing.
+use mathlib.Core.Logic.{_⊎_, inl, inr}
 use borrow.Author.Needs.{needs}
 use Rattle.reading.proofs.ArgumentLaws.{differs, no-dash}
 use Rattle.reading.proofs.arguments.kind_of.Statement.{statement}
@@ -11,34 +12,61 @@ same-requires : tie.Need-same-requires
 same-requires c κs = search needs
 
 returns : tie.Need-returns
-returns c = c .before .same .ensures .0 (c .if1 .taken)
+returns c = inl (c .before .same .ensures .0 (c .if1 .taken))
+
+slice-aggregate-same-2 : tie.Need-slice-aggregate-same-2
+slice-aggregate-same-2 c = search needs
 
 same-requires-2 : tie.Need-same-requires-2
 same-requires-2 c κs = search needs
 
 returns-2 : tie.Need-returns-2
-returns-2 c = (differs (c .before .before .before .same .ensures .1) (c .before .before .if1 .left), c .before .same2 .ensures .0 (c .if2 .taken))
+returns-2 c = inr (c .before .same2 .ensures .0 (c .if2 .taken))
 
-slice-aggregate-same-2 : tie.Need-slice-aggregate-same-2
-slice-aggregate-same-2 c = search needs
+slice-aggregate-same-3 : tie.Need-slice-aggregate-same-3
+slice-aggregate-same-3 c = search needs
 
 same-requires-3 : tie.Need-same-requires-3
 same-requires-3 c κs = search needs
 
 returns-3 : tie.Need-returns-3
-returns-3 c = ((differs (c .before .before .before .before .before .before .same .ensures .1) (c .before .before .before .before .before .if1 .left), differs (c .before .before .before .before .same2 .ensures .1) (c .before .before .before .if2 .left)), c .before .same3 .ensures .0 (c .if3 .taken))
+returns-3 c = c .before .same3 .ensures .0 (c .if3 .taken)
+
+same-requires-4 : tie.Need-same-requires-4
+same-requires-4 c κs = search needs
 
 returns-4 : tie.Need-returns-4
-returns-4 c = ((differs (c .before .before .before .before .before .before .before .same .ensures .1) (c .before .before .before .before .before .before .if1 .left), differs (c .before .before .before .before .before .same2 .ensures .1) (c .before .before .before .before .if2 .left)), differs (c .before .before .same3 .ensures .1) (c .before .if3 .left), no-dash (c .before .before .before .before .before .before .before .before .before .before .before .args .word .now) (c .if4 .taken))
+returns-4 c = ((differs (c .before .before .before .before .before .before .before .before .before .same .ensures .1) (c .before .before .before .before .before .before .before .before .if1 .left), differs (c .before .before .before .before .before .before .same2 .ensures .1) (c .before .before .before .before .before .if2 .left), differs (c .before .before .before .same3 .ensures .1) (c .before .before .if3 .left)), c .before .same4 .ensures .0 (c .if4 .taken))
 
-shared-slice-read-if5 : tie.Need-shared-slice-read-if5
-shared-slice-read-if5 c = search needs
+slice-aggregate-same-4 : tie.Need-slice-aggregate-same-4
+slice-aggregate-same-4 c = search needs
+
+same-requires-5 : tie.Need-same-requires-5
+same-requires-5 c κs = search needs
 
 returns-5 : tie.Need-returns-5
-returns-5 c = ((differs (c .before .before .before .before .before .before .before .before .before .same .ensures .1) (c .before .before .before .before .before .before .before .before .if1 .left), differs (c .before .before .before .before .before .before .before .same2 .ensures .1) (c .before .before .before .before .before .before .if2 .left)), differs (c .before .before .before .before .same3 .ensures .1) (c .before .before .before .if3 .left), c .if5 .taken)
+returns-5 c = ((differs (c .before .before .before .before .before .before .before .before .before .before .before .before .same .ensures .1) (c .before .before .before .before .before .before .before .before .before .before .before .if1 .left), differs (c .before .before .before .before .before .before .before .before .before .same2 .ensures .1) (c .before .before .before .before .before .before .before .before .if2 .left), differs (c .before .before .before .before .before .before .same3 .ensures .1) (c .before .before .before .before .before .if3 .left)), differs (c .before .before .before .before .same4 .ensures .1) (c .before .before .before .if4 .left), c .before .same5 .ensures .0 (c .if5 .taken))
+
+slice-aggregate-same-5 : tie.Need-slice-aggregate-same-5
+slice-aggregate-same-5 c = search needs
+
+same-requires-6 : tie.Need-same-requires-6
+same-requires-6 c κs = search needs
 
 returns-6 : tie.Need-returns-6
-returns-6 c = ((differs (c .before .before .before .before .before .before .before .before .before .same .ensures .1) (c .before .before .before .before .before .before .before .before .if1 .left), differs (c .before .before .before .before .before .before .before .same2 .ensures .1) (c .before .before .before .before .before .before .if2 .left)), differs (c .before .before .before .before .same3 .ensures .1) (c .before .before .before .if3 .left), c .if5 .left)
+returns-6 c = (((differs (c .before .before .before .before .before .before .before .before .before .before .before .before .before .before .before .same .ensures .1) (c .before .before .before .before .before .before .before .before .before .before .before .before .before .before .if1 .left), differs (c .before .before .before .before .before .before .before .before .before .before .before .before .same2 .ensures .1) (c .before .before .before .before .before .before .before .before .before .before .before .if2 .left), differs (c .before .before .before .before .before .before .before .before .before .same3 .ensures .1) (c .before .before .before .before .before .before .before .before .if3 .left)), differs (c .before .before .before .before .before .before .before .same4 .ensures .1) (c .before .before .before .before .before .before .if4 .left), differs (c .before .before .before .before .same5 .ensures .1) (c .before .before .before .if5 .left)), c .before .same6 .ensures .0 (c .if6 .taken))
+
+returns-7 : tie.Need-returns-7
+returns-7 c = (((differs (c .before .before .before .before .before .before .before .before .before .before .before .before .before .before .before .before .same .ensures .1) (c .before .before .before .before .before .before .before .before .before .before .before .before .before .before .before .if1 .left), differs (c .before .before .before .before .before .before .before .before .before .before .before .before .before .same2 .ensures .1) (c .before .before .before .before .before .before .before .before .before .before .before .before .if2 .left), differs (c .before .before .before .before .before .before .before .before .before .before .same3 .ensures .1) (c .before .before .before .before .before .before .before .before .before .if3 .left)), differs (c .before .before .before .before .before .before .before .before .same4 .ensures .1) (c .before .before .before .before .before .before .before .if4 .left), differs (c .before .before .before .before .before .same5 .ensures .1) (c .before .before .before .before .if5 .left)), differs (c .before .before .same6 .ensures .1) (c .before .if6 .left), no-dash (c .before .before .before .before .before .before .before .before .before .before .before .before .before .before .before .before .before .before .before .before .args .word .now) (c .if7 .taken))
+
+shared-slice-read-if8 : tie.Need-shared-slice-read-if8
+shared-slice-read-if8 c = search needs
+
+returns-8 : tie.Need-returns-8
+returns-8 c = (((differs (c .before .before .before .before .before .before .before .before .before .before .before .before .before .before .before .before .before .before .same .ensures .1) (c .before .before .before .before .before .before .before .before .before .before .before .before .before .before .before .before .before .if1 .left), differs (c .before .before .before .before .before .before .before .before .before .before .before .before .before .before .before .same2 .ensures .1) (c .before .before .before .before .before .before .before .before .before .before .before .before .before .before .if2 .left), differs (c .before .before .before .before .before .before .before .before .before .before .before .before .same3 .ensures .1) (c .before .before .before .before .before .before .before .before .before .before .before .if3 .left)), differs (c .before .before .before .before .before .before .before .before .before .before .same4 .ensures .1) (c .before .before .before .before .before .before .before .before .before .if4 .left), differs (c .before .before .before .before .before .before .before .same5 .ensures .1) (c .before .before .before .before .before .before .if5 .left)), differs (c .before .before .before .before .same6 .ensures .1) (c .before .before .before .if6 .left), c .if8 .taken)
+
+returns-9 : tie.Need-returns-9
+returns-9 c = (((differs (c .before .before .before .before .before .before .before .before .before .before .before .before .before .before .before .before .before .before .same .ensures .1) (c .before .before .before .before .before .before .before .before .before .before .before .before .before .before .before .before .before .if1 .left), differs (c .before .before .before .before .before .before .before .before .before .before .before .before .before .before .before .same2 .ensures .1) (c .before .before .before .before .before .before .before .before .before .before .before .before .before .before .if2 .left), differs (c .before .before .before .before .before .before .before .before .before .before .before .before .same3 .ensures .1) (c .before .before .before .before .before .before .before .before .before .before .before .if3 .left)), differs (c .before .before .before .before .before .before .before .before .before .before .same4 .ensures .1) (c .before .before .before .before .before .before .before .before .before .if4 .left), differs (c .before .before .before .before .before .before .before .same5 .ensures .1) (c .before .before .before .before .before .before .if5 .left)), differs (c .before .before .before .before .same6 .ensures .1) (c .before .before .before .if6 .left), c .if8 .left)
 
 pub kind-of-spec : {M : Type 1} → statement M
 kind-of-spec =
@@ -47,12 +75,21 @@ kind-of-spec =
     slice-aggregate-same
     same-requires
     returns
+    slice-aggregate-same-2
     same-requires-2
     returns-2
-    slice-aggregate-same-2
+    slice-aggregate-same-3
     same-requires-3
     returns-3
+    same-requires-4
     returns-4
-    shared-slice-read-if5
+    slice-aggregate-same-4
+    same-requires-5
     returns-5
-    returns-6)
+    slice-aggregate-same-5
+    same-requires-6
+    returns-6
+    returns-7
+    shared-slice-read-if8
+    returns-8
+    returns-9)

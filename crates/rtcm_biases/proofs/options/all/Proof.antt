@@ -1,29 +1,24 @@
 -- The measure is the number of arguments that are left. Assumes nothing.
 use Prim.Native.Nat.{_-_}
+use native.Mathlib.Omega.{arith}
 use borrow.Author.Needs.{needs}
 use Rattle.rtcm_biases.proofs.options.all.Statement.{statement}
 use Rattle.rtcm_biases.proofs.options.all.Tie as tie
 
 abbrev Inv-loop : tie.InvT-loop
-Inv-loop help₀ unknown₀ wrong₀ file₀ count i₀ help unknown wrong file i = Unit {0}
+Inv-loop help₀ version₀ wrong₀ rest₀ file₀ count i₀ help version wrong rest file i = Unit {0}
 
 abbrev μ-loop : tie.MeasureT-loop
-μ-loop help₀ unknown₀ wrong₀ file₀ count i₀ help unknown wrong file i = count - i
+μ-loop help₀ version₀ wrong₀ rest₀ file₀ count i₀ help version wrong rest file i = count - i
 
 arg-count-requires : tie.Need-arg-count-requires Inv-loop μ-loop
-arg-count-requires c κs = search needs
+arg-count-requires c κs = tt
 
 loop-holds : tie.Need-loop-holds Inv-loop μ-loop
 loop-holds c = tt
 
-is-number-requires : tie.Need-is-number-requires Inv-loop μ-loop
-is-number-requires c κs = search needs
-
-is-wrong-requires : tie.Need-is-wrong-requires Inv-loop μ-loop
-is-wrong-requires c κs = search needs
-
-kind-at-requires : tie.Need-kind-at-requires Inv-loop μ-loop
-kind-at-requires c κs = search needs
+asked-at-requires : tie.Need-asked-at-requires Inv-loop μ-loop
+asked-at-requires c κs = tt
 
 enum-told : tie.Need-enum-told Inv-loop μ-loop
 enum-told c = search needs
@@ -34,17 +29,26 @@ enum-told-2 c = search needs
 enum-told-3 : tie.Need-enum-told-3 Inv-loop μ-loop
 enum-told-3 c = search needs
 
+enum-told-4 : tie.Need-enum-told-4 Inv-loop μ-loop
+enum-told-4 c = search needs
+
+first-requires : tie.Need-first-requires Inv-loop μ-loop
+first-requires c κs = tt
+
+enum-told-5 : tie.Need-enum-told-5 Inv-loop μ-loop
+enum-told-5 c = search needs
+
 add-i : tie.Need-add-i Inv-loop μ-loop
-add-i c = search needs
+add-i c = omega arith
 
 loop-less : tie.Need-loop-less Inv-loop μ-loop
-loop-less c = search needs
+loop-less c = omega arith
 
 loop-again : tie.Need-loop-again Inv-loop μ-loop
 loop-again c = tt
 
 returns : tie.Need-returns Inv-loop μ-loop
-returns c = search needs
+returns c = tt
 
 pub all-spec : {M : Type 1} → statement M
 all-spec =
@@ -54,12 +58,13 @@ all-spec =
     μ-loop
     arg-count-requires
     loop-holds
-    is-number-requires
-    is-wrong-requires
-    kind-at-requires
+    asked-at-requires
     enum-told
     enum-told-2
     enum-told-3
+    enum-told-4
+    first-requires
+    enum-told-5
     add-i
     loop-less
     loop-again

@@ -6,10 +6,10 @@ use Rattle.rtcm_scan.proofs.options.all.Statement.{statement}
 use Rattle.rtcm_scan.proofs.options.all.Tie as tie
 
 abbrev Inv-loop : tie.InvT-loop
-Inv-loop help₀ quiet₀ unknown₀ file₀ count i₀ help quiet unknown file i = Unit {0}
+Inv-loop help₀ version₀ quiet₀ unknown₀ rest₀ file₀ count i₀ help version quiet unknown rest file i = Unit {0}
 
 abbrev μ-loop : tie.MeasureT-loop
-μ-loop help₀ quiet₀ unknown₀ file₀ count i₀ help quiet unknown file i = count - i
+μ-loop help₀ version₀ quiet₀ unknown₀ rest₀ file₀ count i₀ help version quiet unknown rest file i = count - i
 
 arg-count-requires : tie.Need-arg-count-requires Inv-loop μ-loop
 arg-count-requires c κs = tt
@@ -28,6 +28,15 @@ enum-told-2 c = search needs
 
 enum-told-3 : tie.Need-enum-told-3 Inv-loop μ-loop
 enum-told-3 c = search needs
+
+enum-told-4 : tie.Need-enum-told-4 Inv-loop μ-loop
+enum-told-4 c = search needs
+
+enum-told-5 : tie.Need-enum-told-5 Inv-loop μ-loop
+enum-told-5 c = search needs
+
+first-requires : tie.Need-first-requires Inv-loop μ-loop
+first-requires c κs = tt
 
 add-i : tie.Need-add-i Inv-loop μ-loop
 add-i c = omega arith
@@ -53,6 +62,9 @@ all-spec =
     enum-told
     enum-told-2
     enum-told-3
+    enum-told-4
+    enum-told-5
+    first-requires
     add-i
     loop-less
     loop-again
