@@ -1,0 +1,98 @@
+-- The measure is the number of turns that are left. Assumes nothing.
+use native.Mathlib.Omega.{arith}
+use borrow.Author.Needs.{needs}
+use Rattle.rtcm_observations.proofs.show.Statement.{statement}
+use Rattle.rtcm_observations.proofs.show.Tie as tie
+
+abbrev Inv-loop : tie.InvT-loop
+Inv-loop fd name out₀ at₀ held₀ piece₀ bytes₀ account₀ turns₀ out at held piece bytes account turns = Unit {0}
+
+abbrev μ-loop : tie.MeasureT-loop
+μ-loop fd name out₀ at₀ held₀ piece₀ bytes₀ account₀ turns₀ out at held piece bytes account turns = turns
+
+large-buffer-requires : tie.Need-large-buffer-requires Inv-loop μ-loop
+large-buffer-requires c κs = tt
+
+start-requires : tie.Need-start-requires Inv-loop μ-loop
+start-requires c κs = tt
+
+loop-holds : tie.Need-loop-holds Inv-loop μ-loop
+loop-holds c = tt
+
+sub-turns : tie.Need-sub-turns Inv-loop μ-loop
+sub-turns c = omega arith
+
+next-requires : tie.Need-next-requires Inv-loop μ-loop
+next-requires c κs = tt
+
+enum-known-place : tie.Need-enum-known-place Inv-loop μ-loop
+enum-known-place c = search needs
+
+show-frame-requires : tie.Need-show-frame-requires Inv-loop μ-loop
+show-frame-requires c κs = tt
+
+loop-less : tie.Need-loop-less Inv-loop μ-loop
+loop-less c = omega arith
+
+loop-again : tie.Need-loop-again Inv-loop μ-loop
+loop-again c = tt
+
+enum-known-a : tie.Need-enum-known-a Inv-loop μ-loop
+enum-known-a c = search needs
+
+opening-requires : tie.Need-opening-requires Inv-loop μ-loop
+opening-requires c κs = tt
+
+loop-less-2 : tie.Need-loop-less-2 Inv-loop μ-loop
+loop-less-2 c = omega arith
+
+loop-again-2 : tie.Need-loop-again-2 Inv-loop μ-loop
+loop-again-2 c = tt
+
+enum-known-a-2 : tie.Need-enum-known-a-2 Inv-loop μ-loop
+enum-known-a-2 c = search needs
+
+empty-requires : tie.Need-empty-requires Inv-loop μ-loop
+empty-requires c κs = tt
+
+returns : tie.Need-returns Inv-loop μ-loop
+returns c = tt
+
+enum-told : tie.Need-enum-told Inv-loop μ-loop
+enum-told c = search needs
+
+fail-requires : tie.Need-fail-requires Inv-loop μ-loop
+fail-requires c κs = tt
+
+returns-2 : tie.Need-returns-2 Inv-loop μ-loop
+returns-2 c = tt
+
+returns-3 : tie.Need-returns-3 Inv-loop μ-loop
+returns-3 c = tt
+
+pub show-spec : {M : Type 1} → statement M
+show-spec =
+    tie.close
+    (tie.spec
+    Inv-loop
+    μ-loop
+    large-buffer-requires
+    start-requires
+    loop-holds
+    sub-turns
+    next-requires
+    enum-known-place
+    show-frame-requires
+    loop-less
+    loop-again
+    enum-known-a
+    opening-requires
+    loop-less-2
+    loop-again-2
+    enum-known-a-2
+    empty-requires
+    returns
+    enum-told
+    fail-requires
+    returns-2
+    returns-3)
