@@ -217,12 +217,23 @@ pub fn frame_write(data: &[u8], out: &mut [u8]) -> Told {
 
 /// A scanner for RTCM only whose first held byte stands at place 0.
 pub fn feed(held: &mut [u8], held_count: usize, piece: &[u8], out: &mut [u8]) -> Told {
+    feed_in(0, held, held_count, piece, out)
+}
+
+/// A scanner of a mode, 0 for RTCM only and 1 for UBX too, whose first held byte stands at place 0.
+pub fn feed_in(
+    mode: u32,
+    held: &mut [u8],
+    held_count: usize,
+    piece: &[u8],
+    out: &mut [u8],
+) -> Told {
     told!(pv_feed(
         held.as_mut_ptr(),
         held.len(),
         held_count,
         held_count as u64,
-        0,
+        mode,
         piece.as_ptr(),
         piece.len(),
         out.as_mut_ptr(),

@@ -7,7 +7,7 @@ use crate::streams::framed;
 use shapes::{Frame, Refused};
 
 pub fn entries() -> Vec<Entry> {
-    vec![number_from_behind(), framing(), pieces(), refusals()]
+    vec![number_from_behind(), framing(), pieces(), refusals(), ubx()]
 }
 
 fn number(frame: Result<Frame, Refused>) -> String {
@@ -109,5 +109,20 @@ fn refusals() -> Entry {
     };
     entry.ours("1,024 data bytes to frame", framed(pv::DATA + 1, pv::HELD));
     entry.ours("an output of 5 bytes for no data", framed(0, 5));
+    entry
+}
+
+fn ubx() -> Entry {
+    let mut entry = Entry::new("F5");
+    let frame = [0xB5, 0x62, 0, 0, 0, 0, 0, 0];
+    entry.builds(&hex(&frame), |build| scanned(build, &frame));
+    let (mut held, mut out) = ([0; pv::HELD], [0; pv::HELD]);
+    let [is_frame, _, _, _, len, ..] = pv::feed_in(1, &mut held, 0, &frame, &mut out).extra;
+    let is = if is_frame == 1 {
+        format!("a frame of {len} bytes")
+    } else {
+        "More".to_string()
+    };
+    entry.ours(&hex(&frame), is);
     entry
 }

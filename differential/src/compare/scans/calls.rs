@@ -67,13 +67,16 @@ impl Call {
                 Ok(frame) => frame.frame_len,
             };
             let rest = held[front + frame_len..].to_vec();
+            let is_frame = frame_len > 0;
             return Ok(Done {
                 told: Told::accepted(&[
-                    (frame_len > 0) as u64,
+                    is_frame as u64,
                     taken as u64,
                     front as u64,
                     rest.len() as u64,
                     frame_len as u64,
+                    if is_frame { front as u64 } else { 0 },
+                    (self.held.len() + taken) as u64,
                 ]),
                 frame: held[front..front + frame_len].to_vec(),
                 held: rest,
