@@ -628,6 +628,34 @@ uint32_t ref_feed(uint8_t *held, size_t held_len, size_t held_count, uint64_t ta
     return PV_ACCEPTED;
 }
 
+/* A byte at the front that starts no whole good frame is given up, whatever it waits for. */
+uint32_t ref_close(uint8_t *held, size_t held_len, size_t held_count, uint64_t taken, uint32_t mode,
+                   uint8_t *out, size_t out_len, uint64_t *extra, size_t extra_len)
+{
+    if (extra_len != PV_EXTRA_SIZE || held_len != PV_HELD_SIZE)
+        return PV_SIZE;
+    if (held_count > PV_HELD_SIZE || held_count > taken || taken > PV_TAKEN_MAX || mode > PV_RTCM_AND_UBX)
+        return refuse(extra, PV_STATE, 0);
+    if (out_len < PV_FRAME_MAX)
+        return refuse(extra, PV_ROOM, PV_FRAME_MAX);
+    size_t at = 0, frame_len = 0;
+    while (at < held_count && judge_front(mode, held + at, held_count - at, &frame_len) != PV_ACCEPTED)
+        at++;
+    clear(extra);
+    extra[PV_AT_FED_SKIPPED] = at;
+    if (at == held_count)
+        return PV_ACCEPTED;
+    memcpy(out, held + at, frame_len);
+    memmove(held, held + at + frame_len, held_count - at - frame_len);
+    extra[PV_AT_FED_IS_FRAME] = PV_FRAME;
+    extra[PV_AT_FED_HELD_COUNT] = held_count - at - frame_len;
+    extra[PV_AT_FED_FRAME_LENGTH] = frame_len;
+    extra[PV_AT_FED_PLACE] = taken - held_count + at;
+    extra[PV_AT_FED_ALL_TAKEN] = taken;
+    extra[PV_AT_FED_KIND] = out[0] == 0xB5 ? PV_UBX : PV_RTCM;
+    return PV_ACCEPTED;
+}
+
 /* ---- Reading of blocks, field after field. ---- */
 
 struct cursor {

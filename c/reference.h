@@ -49,6 +49,8 @@ uint32_t ref_cache_lookup(const struct pv_cache_entry *entries, size_t entries_l
 uint32_t ref_feed(uint8_t *held, size_t held_len, size_t held_count, uint64_t taken, uint32_t mode,
                   const uint8_t *piece, size_t piece_len, uint8_t *out, size_t out_len,
                   uint64_t *extra, size_t extra_len);
+uint32_t ref_close(uint8_t *held, size_t held_len, size_t held_count, uint64_t taken, uint32_t mode,
+                   uint8_t *out, size_t out_len, uint64_t *extra, size_t extra_len);
 
 uint32_t ref_1059_read(const uint8_t *data, size_t data_len, size_t start, uint8_t *satellites, size_t satellites_len,
                        uint8_t *signals, size_t signals_len, int16_t *biases, size_t biases_len,

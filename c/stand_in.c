@@ -155,6 +155,12 @@ uint32_t pv_feed(uint8_t *held, size_t held_len, size_t held_count, uint64_t tak
     return ref_feed(held, held_len, held_count, taken, mode, piece, piece_len, out, out_len, extra, extra_len);
 }
 
+uint32_t pv_close(uint8_t *held, size_t held_len, size_t held_count, uint64_t taken, uint32_t mode,
+                  uint8_t *out, size_t out_len, uint64_t *extra, size_t extra_len)
+{
+    return ref_close(held, held_len, held_count, taken, mode, out, out_len, extra, extra_len);
+}
+
 uint32_t pv_1059_read(const uint8_t *data, size_t data_len, size_t start, uint8_t *satellites, size_t satellites_len,
                       uint8_t *signals, size_t signals_len, int16_t *biases, size_t biases_len,
                       uint64_t *extra, size_t extra_len)

@@ -505,6 +505,30 @@ static void the_longest_piece(void)
     CHECK_EQ(area_u64(&extra)[PV_AT_FED_HELD_COUNT], 1);
 }
 
+/* A false D3 that announces 1,023 bytes, and a good frame behind it: feeding waits, closing hands the frame out. */
+static void closing(void)
+{
+    static const uint8_t stream[] = { 9, 0xD3, 3, 0xFF, 0xD3, 0, 0, 0x47, 0xEA, 0x4B, 0xD3 };
+    struct pv_scanner scanner = PV_SCANNER_FRESH;
+    struct pv_fed fed = { 7, 7, 7, 7, 7, 7 };
+    uint8_t frame[PV_FRAME_MAX] = { 0 };
+    CHECK_EQ(pv_scanner_feed(&scanner, stream, sizeof stream, frame, sizeof frame, &fed), PV_ACCEPTED);
+    CHECK(fed.is_frame == 0 && fed.skipped == 1 && scanner.held_count == 10 && scanner.taken == 11);
+    CHECK_EQ(pv_scanner_close(&scanner, frame, 1028, &fed), PV_ROOM);
+    CHECK(scanner.held_count == 10 && scanner.taken == 11);
+    CHECK_EQ(pv_scanner_close(&scanner, frame, sizeof frame, &fed), PV_ACCEPTED);
+    CHECK(fed.is_frame == 1 && fed.taken == 0 && fed.skipped == 3 && fed.frame_len == 6 && fed.place == 4);
+    CHECK(fed.kind == PV_RTCM && memcmp(frame, stream + 4, 6) == 0);
+    CHECK(scanner.held_count == 1 && scanner.held[0] == 0xD3 && scanner.taken == 11);
+    CHECK_EQ(pv_scanner_close(&scanner, frame, sizeof frame, &fed), PV_ACCEPTED);
+    CHECK(fed.is_frame == 0 && fed.skipped == 1 && fed.frame_len == 0 && fed.place == 0);
+    CHECK(scanner.held_count == 0 && scanner.taken == 0 && scanner.mode == PV_RTCM_ONLY);
+    CHECK_EQ(pv_scanner_close(&scanner, frame, sizeof frame, &fed), PV_ACCEPTED);
+    CHECK(fed.is_frame == 0 && fed.skipped == 0);
+    scanner.mode = 2;
+    CHECK_EQ(pv_scanner_close(&scanner, frame, sizeof frame, &fed), PV_STATE);
+}
+
 static void scanner_struct(void)
 {
     static const uint8_t stream[] = { 9, 0xD3, 0, 0, 0x47, 0xEA, 0x4B, 0xD3 };
@@ -650,6 +674,7 @@ static void feeding(void)
     the_longest_frame();
     the_longest_piece();
     scanner_struct();
+    closing();
 }
 
 /* ---- 1059. ---- */
@@ -1456,7 +1481,7 @@ static void cache(void)
 
 /* ---- The extra area of another size. ---- */
 
-#define CALLS 24
+#define CALLS 25
 
 static uint32_t call_number(unsigned call, uint64_t *numbers, size_t n)
 {
@@ -1484,6 +1509,7 @@ static uint32_t call_number(unsigned call, uint64_t *numbers, size_t n)
     case 20: return pv_settings_write(1, 0, NULL, 0, NULL, 0, OUT, numbers, n);
     case 21: return pv_cache_store(area_entries(&data), 2, 0, 0, 0, 0, 0, 0, numbers, n);
     case 22: return pv_cache_lookup(area_entries(&data), 2, 0, 0, 0, 0, numbers, n);
+    case 23: return pv_close(held.bytes, held.size, 3, 3, 1, OUT, numbers, n);
     default: return pv_cache_remove(area_entries(&data), 2, 0, 0, 0, 0, numbers, n);
     }
 }

@@ -500,6 +500,20 @@ static uint32_t feed_both(size_t held_count, uint64_t taken, uint32_t mode)
     return extra.ours.size == 8 * PV_EXTRA_SIZE ? got : PV_SIZE;
 }
 
+/* Closes what is held, until Done or a refusal. */
+static void close_both(size_t held_count, uint64_t taken, uint32_t mode)
+{
+    for (;;) {
+        lend_extra();
+        uint32_t got = pv_close(OURS(held), held_count, taken, mode, OURS(out), OUR_EXTRA);
+        compare("pv_close", got, ref_close(THEIRS(held), held_count, taken, mode, THEIRS(out), THEIR_EXTRA));
+        if (got != PV_ACCEPTED || area_u64(&extra.ours)[PV_AT_FED_IS_FRAME] != PV_FRAME)
+            return;
+        held_count = area_u64(&extra.ours)[PV_AT_FED_HELD_COUNT];
+        taken = area_u64(&extra.ours)[PV_AT_FED_ALL_TAKEN];
+    }
+}
+
 static void try_feed_refusals(size_t held_count)
 {
     size_t held_len = one_in(4) ? PICK(0, 1, 1028, 1030) : PV_HELD_SIZE;
@@ -510,7 +524,10 @@ static void try_feed_refusals(size_t held_count)
     uint64_t taken = one_in(2) ? held_count + below(9) : PICK(0, 1, 1028, most - 65536, most - 8, most, most + 1, UINT64_MAX);
     if (one_in(3))
         held_count = PICK(1030, 1031, SIZE_MAX, (size_t)1 << 32);
-    feed_both(held_count, taken, one_in(3) ? PICK(2, 3, UINT32_MAX) : below(2));
+    uint32_t mode = one_in(3) ? PICK(2, 3, UINT32_MAX) : below(2);
+    feed_both(held_count, taken, mode);
+    if (one_in(2))
+        close_both(held_count, taken, mode);
 }
 
 /* Held bytes that no run of the scanner would leave: any bytes, any count. */
@@ -523,7 +540,12 @@ static void try_strange_held(void)
     lend(&piece, one_in(2) ? below(40) : below(n));
     fill(&piece, stream);
     lend_random(&out, PV_FRAME_MAX + below(5));
-    feed_both(held_count, held_count + (one_in(2) ? 0 : below(100000)), below(2));
+    uint64_t taken = held_count + (one_in(2) ? 0 : below(100000));
+    uint32_t mode = below(2);
+    if (one_in(2))
+        close_both(held_count, taken, mode);
+    else
+        feed_both(held_count, taken, mode);
 }
 
 /* What became of a byte of a recording. */

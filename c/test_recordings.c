@@ -227,6 +227,14 @@ static void scan_both_kinds(size_t piece_len)
     CHECK_EQ(kinds[PV_RTCM], 15);
     CHECK_EQ(kinds[PV_UBX], 14);
     CHECK_EQ(framed + skipped + scanner.held_count, stream_len);
+    do {
+        CHECK_EQ(pv_scanner_close(&scanner, frame, sizeof frame, &fed), PV_ACCEPTED);
+        skipped += fed.skipped;
+        framed += fed.frame_len;
+        CHECK(memcmp(frame, stream + fed.place, fed.frame_len) == 0);
+    } while (fed.is_frame);
+    CHECK_EQ(framed + skipped, stream_len);
+    CHECK(scanner.held_count == 0 && scanner.taken == 0 && scanner.mode == PV_RTCM_AND_UBX);
 }
 
 int main(int argc, char **argv)

@@ -120,7 +120,7 @@ static inline const char *pv_refusal_name(uint32_t number)
 #define PV_AT_FRAME_NUMBER 3      /* Frame check: the message number, or 0. */
 #define PV_AT_FRAME_CHECKSUM 4    /* Frame check: the checksum. */
 
-#define PV_AT_FED_IS_FRAME 0     /* Feeding: PV_MORE or PV_FRAME. */
+#define PV_AT_FED_IS_FRAME 0     /* Feeding: PV_MORE or PV_FRAME; closing: PV_DONE or PV_FRAME. */
 #define PV_AT_FED_TAKEN 1        /* Feeding: bytes of the piece taken. */
 #define PV_AT_FED_SKIPPED 2      /* Feeding: bytes skipped in this call. */
 #define PV_AT_FED_HELD_COUNT 3   /* Feeding: the held count from now on. */
@@ -175,6 +175,7 @@ static inline const char *pv_refusal_name(uint32_t number)
 /* What feeding answers at PV_AT_FED_IS_FRAME. */
 #define PV_MORE 0  /* The whole piece was taken, and there is no frame yet. */
 #define PV_FRAME 1 /* A frame was handed out. */
+#define PV_DONE 0  /* Closing: nothing is held any more. */
 
 /* The kinds of frames, at PV_AT_FED_KIND. */
 #define PV_RTCM 0
@@ -305,6 +306,26 @@ uint32_t pv_differing(const uint8_t *sent, size_t sent_len, const uint8_t *recei
 uint32_t pv_feed(uint8_t *held, size_t held_len, size_t held_count, uint64_t taken, uint32_t mode,
                  const uint8_t *piece, size_t piece_len, uint8_t *out, size_t out_len,
                  uint64_t *extra, size_t extra_len);
+
+/*
+ * Closes a recording: hands out at most one frame of the bytes that a scanner still holds once no more bytes come. A false
+ * D3 near the end of a recording hides the good frames behind it, since it waits for bytes that never come. Here nothing
+ * waits: a candidate that is unfinished is skipped by one byte, and the search goes on behind it.
+ *
+ * The answer is PV_FRAME, as in feeding; or PV_DONE, with nothing written to `out`: then nothing is held, and the numbers
+ * to pass on are those of a fresh scanner of the same mode. Both return 0. Call it again until PV_DONE.
+ *
+ * Over a recording that is fed and then closed, bytes taken equal bytes in frames plus bytes skipped, where skipped also
+ * counts the bytes given up in closing. What follows is another recording: its places start at 0.
+ *
+ * Refuses, in this order: PV_SIZE (held_len is not 1,029; like a wrong extra_len this writes nothing at all), PV_STATE and
+ * PV_ROOM as pv_feed does.
+ * Answers, at the places of pv_feed's: [PV_AT_FED_IS_FRAME] PV_DONE or PV_FRAME; [PV_AT_FED_TAKEN] 0; [PV_AT_FED_SKIPPED];
+ * [PV_AT_FED_HELD_COUNT] and [PV_AT_FED_ALL_TAKEN] the numbers to pass to the next call; [PV_AT_FED_FRAME_LENGTH];
+ * [PV_AT_FED_PLACE]; [PV_AT_FED_KIND].
+ */
+uint32_t pv_close(uint8_t *held, size_t held_len, size_t held_count, uint64_t taken, uint32_t mode,
+                  uint8_t *out, size_t out_len, uint64_t *extra, size_t extra_len);
 
 /* ---- Why a byte of a recording was dropped. ---- */
 
@@ -617,6 +638,28 @@ static inline uint32_t pv_scanner_feed(struct pv_scanner *scanner, const uint8_t
     scanner->taken = extra[PV_AT_FED_ALL_TAKEN];
     fed->is_frame = extra[PV_AT_FED_IS_FRAME] == PV_FRAME;
     fed->taken = extra[PV_AT_FED_TAKEN];
+    fed->skipped = extra[PV_AT_FED_SKIPPED];
+    fed->frame_len = extra[PV_AT_FED_FRAME_LENGTH];
+    fed->place = extra[PV_AT_FED_PLACE];
+    fed->kind = (int)extra[PV_AT_FED_KIND];
+    return PV_ACCEPTED;
+}
+
+/*
+ * pv_close on a scanner: the same answers and refusals, in the same order. Call it until fed->is_frame is 0; the scanner is
+ * fresh then, and its mode stays. fed->taken is 0.
+ */
+static inline uint32_t pv_scanner_close(struct pv_scanner *scanner, uint8_t *out, size_t out_len, struct pv_fed *fed)
+{
+    uint64_t extra[PV_EXTRA_SIZE];
+    uint32_t refusal = pv_close(scanner->held, PV_HELD_SIZE, scanner->held_count, scanner->taken, scanner->mode,
+                                out, out_len, extra, PV_EXTRA_SIZE);
+    if (refusal != PV_ACCEPTED)
+        return refusal;
+    scanner->held_count = extra[PV_AT_FED_HELD_COUNT];
+    scanner->taken = extra[PV_AT_FED_ALL_TAKEN];
+    fed->is_frame = extra[PV_AT_FED_IS_FRAME] == PV_FRAME;
+    fed->taken = 0;
     fed->skipped = extra[PV_AT_FED_SKIPPED];
     fed->frame_len = extra[PV_AT_FED_FRAME_LENGTH];
     fed->place = extra[PV_AT_FED_PLACE];

@@ -5,8 +5,7 @@ use Prim.Native.Nat.{ℕ, zero, suc, _+_, _≤_, _<_, pred}
 use native.Mathlib.Nat.{not-suc-le-zero}
 use native.Mathlib.Omega.{arith}
 use lib.ListN.{length, take, drop, length-append}
-use lib.Seq.{take-append-seam, length-take-le}
-use borrow.Author.Tests.{le-leb}
+use lib.Seq.{take-append-seam}
 use Rattle.bits.specs.Told.{Told, Accepted, Refused}
 use Rattle.bits.specs.Outcome.{outcome}
 use Rattle.bits.specs.Onto.{onto}
@@ -15,7 +14,7 @@ use Rattle.frames.specs.Framing.{Framing, Lawful, decide}
 use Rattle.frames.specs.Feed.{Next, Held, Found, next, only}
 use Rattle.frames.specs.Call as call
 use Rattle.frames.specs.Call.{Scanner, afresh, heldFrom, onwards, FedAnswer, called, feedOf}
-use Rattle.frames.specs.Close.{Gave, closing, closed}
+use Rattle.frames.specs.Close.{Gave, closing, closed, ending, Done, Frame, closedBy, closeOf}
 use Rattle.frames.specs.Offered.{found, Calls}
 use Rattle.frames.proofs.FramingLaws.{Whole, decides}
 use Rattle.frames.proofs.ItemLaws.{bytes-append, handed-append, handed-none, handed-one, skipped-append}
@@ -23,8 +22,8 @@ use Rattle.frames.proofs.FeedLaws.{begins, scan-next}
 use Rattle.frames.proofs.KeptLaws.{Kept, kept, skipped-alone}
 use Rattle.frames.proofs.CallLaws.{Fits, accepted, accepts}
 use Rattle.frames.proofs.AnswerLaws.{area-stays, held-count}
-use Rattle.frames.proofs.CloseLaws.{closing-whole, holds-nothing, every-byte-once, sum-closed}
-use Rattle.closing.specs.Closing.{ending, ClosedAnswer, Done, Frame, closedBy, closeOf, Closes, done, then}
+use Rattle.frames.proofs.CloseLaws.{closing-whole, ending-decides, close-is, close-by, every-byte-once, sum-closed}
+use Rattle.closing.specs.Closing.{Closes, done, then}
 
 -- ---- two deciders that agree on every byte scan alike
 
@@ -63,17 +62,13 @@ module _ {K : Type 0} where
   is-found (Refused n cs) l s i k y e = let z : _≡_ {A = ℕ} 0 1 = cc in absurd (omega arith)
 
 module _ {W K : Type 0} (F : Framing W K) where
-  -- the framing of the end decides as `closing` does
-  ending-decides : (x : ℕ) (xs : List ℕ) → decide (ending F) (x ∷ xs) ≡ closing (decide F) (x ∷ xs)
-  ending-decides x xs = rw (le-leb 1 (suc (length xs)) (omega arith))
-
   ending-scan : (h : List ℕ) → scan (decide (ending F)) h ≡ scan (closing (decide F)) h
-  ending-scan h = same-past (decide (ending F)) (closing (decide F)) ending-decides 0 h
+  ending-scan h = same-past (decide (ending F)) (closing (decide F)) (ending-decides F) 0 h
 
   module _ (L : Lawful F) where
     ending-whole : Whole (decide (ending F))
     ending-whole [] k n e = let z : _≡_ {A = ℕ} 0 1 = cc in absurd (omega arith)
-    ending-whole (x ∷ xs) k n e = closing-whole (decide F) (decides F L .whole) (x ∷ xs) k n (sym (ending-decides x xs) ∙ e)
+    ending-whole (x ∷ xs) k n e = closing-whole (decide F) (decides F L .whole) (x ∷ xs) k n (sym (ending-decides F x xs) ∙ e)
 
     closed-next : (h : List ℕ) → scan (closing (decide F)) h ≡ begins (decide (ending F)) (next (decide (ending F)) h)
     closed-next h = sym (ending-scan h) ∙ scan-next (decide (ending F)) ending-whole h
@@ -140,20 +135,18 @@ module _ {W K : Type 0} (F : Framing W K) where
     module _ (a : List ℕ) (x : Scanner) (o b q : List ℕ) (s : ℕ) (y : Scanner) where
       call-ends : closeOf F a x o ≡ outcome (Accepted (Done s y)) (b, q)
           → (handed (heldFrom x) (closed F (take (x .count) a)) ≡ []) × (skippedOf (closed F (take (x .count) a)) ≡ s) × (y ≡ afresh x)
-      unfolding closeOf
       call-ends e =
-          let r = is-done (feedOf (ending F) a x [] o .answer) s y (ap (λ z. z .answer) e) in
-          let f : feedOf (ending F) a x [] o ≡ outcome (Accepted (call.More (r .0) s (r .1))) (b, q) = λ j. outcome (r .2 j) (e j .areas) in
+          let r = is-done (feedOf (ending F) a x [] o .answer) s y (ap (λ z. z .answer) (sym (close-is F a x o) ∙ e)) in
+          let f : feedOf (ending F) a x [] o ≡ outcome (Accepted (call.More (r .0) s (r .1))) (b, q) = λ j. outcome (r .2 j) ((sym (close-is F a x o) ∙ e) j .areas) in
           let g = of-done a x o b q s (r .0) (r .1) (next (decide (ending F)) (take (x .count) a)) (closed-next (take (x .count) a)) (kept (decide (ending F)) [] (take (x .count) a)) (accepts (ending F) a x [] o (call.More (r .0) s (r .1)) b q f .1) in
           (g .0, g .1, sym (r .3) ∙ (λ j. call.fresh (g .2 j)))
 
       call-stops : (l i : ℕ) (k : K) → closeOf F a x o ≡ outcome (Accepted (Frame l s i k y)) (b, q)
           → (handed (heldFrom x) (closed F (take (x .count) a)) ≡ found i k l q ∷ handed (heldFrom y) (closed F (take (y .count) b)))
           × (skippedOf (closed F (take (x .count) a)) ≡ s + skippedOf (closed F (take (y .count) b))) × (y .mode ≡ x .mode)
-      unfolding closeOf
       call-stops l i k e =
-          let r = is-found (feedOf (ending F) a x [] o .answer) l s i k y (ap (λ z. z .answer) e) in
-          let f : feedOf (ending F) a x [] o ≡ outcome (Accepted (call.Frame l (r .0) s i k y)) (b, q) = λ j. outcome (r .1 j) (e j .areas) in
+          let r = is-found (feedOf (ending F) a x [] o .answer) l s i k y (ap (λ z. z .answer) (sym (close-is F a x o) ∙ e)) in
+          let f : feedOf (ending F) a x [] o ≡ outcome (Accepted (call.Frame l (r .0) s i k y)) (b, q) = λ j. outcome (r .1 j) ((sym (close-is F a x o) ∙ e) j .areas) in
           let v = accepts (ending F) a x [] o (call.Frame l (r .0) s i k y) b q f in
           of-found a x o b q s (r .0) y l i k (next (decide (ending F)) (take (x .count) a)) (closed-next (take (x .count) a)) (kept (decide (ending F)) [] (take (x .count) a)) (v .0) (v .1)
 
@@ -173,10 +166,8 @@ module _ {W K : Type 0} (F : Framing W K) where
 
     is-closed : (a : List ℕ) (x : Scanner) (o : List ℕ) → Fits a x [] o → (r : Next (Gave W) K) → next (decide (ending F)) (take (x .count) a) ≡ r
         → closeOf F a x o ≡ outcome (closedBy (called (only r) x a o .answer)) (called (only r) x a o .areas)
-    unfolding closeOf
     is-closed a x o f r e =
-        let u : feedOf (ending F) a x [] o ≡ called (only r) x a o = accepted (ending F) a x [] o f ∙ ap (λ r. called (only r) x a o) e in
-        ap (λ w. outcome (closedBy (w .answer)) (w .areas)) u
+        close-by F a x o (called (only r) x a o) (accepted (ending F) a x [] o f ∙ ap (λ r. called (only r) x a o) e)
 
     comes-within : (n : ℕ) (o a : List ℕ) (x : Scanner) → Fits a x [] o → length (closed F (take (x .count) a)) < n → Comes a x
     comes-within zero o a x f l = absurd (not-suc-le-zero l)

@@ -1,23 +1,25 @@
 -- Closing holds nothing, and every byte of a stream that is fed and then closed is in exactly one item. Assumes nothing.
-use mathlib.Core.Path.{_≡_, refl, ap}
+use mathlib.Core.Path.{_≡_, refl, ap, _∙_}
 use mathlib.Core.List.{List, [], _∷_, _++_, append-nil}
 use Prim.Native.Nat.{ℕ, zero, suc, _+_, pred}
 use native.Mathlib.Omega.{arith}
 use lib.ListN.{length, take}
+use borrow.Author.Tests.{le-leb}
+use Rattle.bits.specs.Outcome.{outcome}
 use Rattle.frames.specs.Scan.{Decision, Skip, Take, Wait, Item, step, scanPast, Handed, scan, bytesOf, handed, skippedOf, framed}
 use Rattle.frames.specs.Framing.{Framing, Lawful, decide}
-use Rattle.frames.specs.Call.{Scanner, heldFrom}
+use Rattle.frames.specs.Call.{Scanner, heldFrom, FedOutcome, feedOf}
 use Rattle.frames.specs.Offered.{Calls}
 use Rattle.frames.proofs.FramingLaws.{Whole, decides}
 use Rattle.frames.proofs.ItemLaws.{length-items}
 use Rattle.frames.proofs.JoinLaws.{every-byte}
 use Rattle.frames.proofs.TakenLaws as takens
-use Rattle.frames.specs.Close.{final, closing, closed}
+use Rattle.frames.specs.Close.{final, closing, closed, ending, closedBy, closeOf}
 
 -- ---- a decider that never waits
 
 module _ {W K : Type 0} (d : List ℕ → Decision W K) where
-  final-takes : (q : Decision W K) (k : K) (n : ℕ) → final q ≡ Take k n → q ≡ Take k n
+  pub final-takes : (q : Decision W K) (k : K) (n : ℕ) → final q ≡ Take k n → q ≡ Take k n
   final-takes (Skip w) k n e = let z : _≡_ {A = ℕ} 0 1 = cc in absurd (omega arith)
   final-takes (Take j m) k n e = cc
   final-takes Wait k n e = let z : _≡_ {A = ℕ} 0 1 = cc in absurd (omega arith)
@@ -40,6 +42,22 @@ module _ {W K : Type 0} (d : List ℕ → Decision W K) where
   -- CLOSING HOLDS NOTHING.
   pub holds-nothing : (s : List ℕ) → scan (closing d) s .held ≡ []
   holds-nothing s = none-past 0 s
+
+-- ---- a closing call
+
+module _ {W K : Type 0} (F : Framing W K) where
+  -- the framing of the end decides as `closing` does
+  pub ending-decides : (x : ℕ) (xs : List ℕ) → decide (ending F) (x ∷ xs) ≡ closing (decide F) (x ∷ xs)
+  ending-decides x xs = rw (le-leb 1 (suc (length xs)) (omega arith))
+
+  module _ (a : List ℕ) (x : Scanner) (o : List ℕ) where
+    -- it is the call that is fed nothing and waits for nothing
+    pub close-is : closeOf F a x o ≡ outcome (closedBy (feedOf (ending F) a x [] o .answer)) (feedOf (ending F) a x [] o .areas)
+    unfolding closeOf
+    close-is = refl
+
+    pub close-by : (w : FedOutcome K) → feedOf (ending F) a x [] o ≡ w → closeOf F a x o ≡ outcome (closedBy (w .answer)) (w .areas)
+    close-by w e = close-is ∙ ap (λ (z : FedOutcome K). outcome (closedBy (z .answer)) (z .areas)) e
 
 -- ---- a stream that is fed and then closed
 

@@ -42,15 +42,15 @@ was-verdict F s k n e = go (leb (F .need s) (length s)) e
     go false x = let z : _≡_ {A = ℕ} 0 1 = cc in absurd (omega arith)
 
 -- of a frame at the front of an output, whatever the output was
-abbrev KindNext : Next Why Kind → Type 0
+abbrev pub KindNext : {W : Type 0} → Next W Kind → Type 0
 KindNext (Held is g) = Unit {0}
 KindNext (Found is k f g) = (o : List ℕ) → kindAt (getD (onto f o) 0 0) ≡ k
 
-abbrev pub KindFed : Fed Why Kind → Type 0
+abbrev pub KindFed : {W : Type 0} → Fed W Kind → Type 0
 KindFed (fed.More t is g) = Unit {0}
 KindFed (fed.Frame t is k f g) = (o : List ℕ) → kindAt (getD (onto f o) 0 0) ≡ k
 
-kind-skipping : (i : Item Why Kind) (r : Next Why Kind) → KindNext r → KindNext (skipping i r)
+pub kind-skipping : {W : Type 0} (i : Item W Kind) (r : Next W Kind) → KindNext r → KindNext (skipping i r)
 kind-skipping i (Held is g) e = tt
 kind-skipping i (Found is k f g) e = e
 
@@ -59,7 +59,7 @@ kind-past is (fed.More t js g) e = tt
 kind-past is (fed.Frame t js k f g) e = e
 
 module _ (mode : ℕ) where
-  at-front : (k : Kind) (n x : ℕ) (xs : List ℕ) → decide (framingOf mode) (x ∷ xs) ≡ Take k n → (o : List ℕ) → kindAt (getD (onto (take n (x ∷ xs)) o) 0 0) ≡ k
+  pub at-front : (k : Kind) (n x : ℕ) (xs : List ℕ) → decide (framingOf mode) (x ∷ xs) ≡ Take k n → (o : List ℕ) → kindAt (getD (onto (take n (x ∷ xs)) o) 0 0) ≡ k
   at-front k zero x xs e o = absurd (not-suc-le-zero (decides (framingOf mode) (lawful mode) .whole (x ∷ xs) k 0 e .0))
   at-front k (suc n) x xs e o =
       ap kindAt (mode-kind (x ∷ xs) mode k (suc n) (was-verdict (framingOf mode) (x ∷ xs) k (suc n) e)) ∙ told k

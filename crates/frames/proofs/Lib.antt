@@ -39,3 +39,4 @@ pub mod PlaceLaws
 pub mod RtcmDemand
 pub mod FateLaws
 pub mod OnlyLaws
+pub mod EndLaws

@@ -10,7 +10,7 @@ use Rattle.bits.specs.Told.{Accepted}
 use Rattle.bits.specs.Outcome.{outcome}
 use Rattle.bits.specs.Onto.{onto}
 use Rattle.frames.specs.Framing.{decide}
-use Rattle.frames.specs.Rtcm.{Why, Kind}
+use Rattle.frames.specs.Rtcm.{Kind}
 use Rattle.frames.specs.Modes.{framingOf}
 use Rattle.frames.specs.Feed as fed
 use Rattle.frames.specs.Feed.{Fed, feed}
@@ -41,7 +41,7 @@ module _ (a : List ℕ) (x : Scanner) (p o : List ℕ) (count : length (take (x 
   h = take (x .count) a
 
   -- and what is then left can be held
-  movable : {W K : Type 0} (r : Fed W K) → Kept h p r → HeldWithin 1029 r → Movable 1029 (x .count) (length p) (sight r)
+  pub movable : {W K : Type 0} (r : Fed W K) → Kept h p r → HeldWithin 1029 r → Movable 1029 (x .count) (length p) (sight r)
   movable (fed.More t is g) k w =
       let e = simp (length-append, count) at (ap length (k .1 .bytes)) in
       (omega (arith, e, bytes-alone is (k .1 .none)), omega (arith, e, bytes-alone is (k .1 .none)))
@@ -50,7 +50,7 @@ module _ (a : List ℕ) (x : Scanner) (p o : List ℕ) (count : length (take (x 
       (k .0, omega (arith, e, bytes-alone is (k .1 .none)), omega (arith, e, bytes-alone is (k .1 .none), simp length-append at w))
 
   -- the moves make what the call gives
-  makes : (r : Fed Why Kind) → Kept h p r → KindFed r → moved a x p o (sight r) ≡ called r x a o
+  pub makes : {W : Type 0} (r : Fed W Kind) → Kept h p r → KindFed r → moved a x p o (sight r) ≡ called r x a o
   makes (fed.More t is g) k y =
       let l = simp (length-append, count) at (ap length (k .1 .bytes)) in
       let e : x .count + length p - length is ≡ length g = omega (arith, l, bytes-alone is (k .1 .none)) in

@@ -13,10 +13,12 @@ use Rattle.bits.proofs.ToldLaws.{found-again}
 use Rattle.frames.specs.Frame.{Whole}
 use Rattle.frames.specs.Call as call
 use Rattle.frames.specs.Call.{Scanner, FedAnswer, FedOutcome}
+use Rattle.frames.specs.Close as close
+use Rattle.frames.specs.Close.{ClosedAnswer}
 use Rattle.frames.specs.Rtcm.{Kind, Rtcm, Ubx}
 use Rattle.frames.specs.Walk as walk
 use Rattle.frames.specs.Walk.{Place}
-use Rattle.frames.specs.Answers.{toldChecked, toldFramed, toldNext, known, toldFed}
+use Rattle.frames.specs.Answers.{toldChecked, toldFramed, toldNext, known, toldFed, toldClosed}
 use Rattle.frames.specs.declared.frame.Number.{Number}
 use Rattle.frames.specs.declared.frame.Number.the-variants as N
 use Rattle.frames.specs.declared.frame.Checked.{Checked}
@@ -30,6 +32,8 @@ use Rattle.frames.specs.declared.scanner.Kind as kinds
 use Rattle.frames.specs.declared.scanner.Kind.the-variants as Q
 use Rattle.frames.specs.declared.scanner.Fed.{Fed}
 use Rattle.frames.specs.declared.scanner.Fed.the-variants as D
+use Rattle.frames.specs.declared.close.Closed.{Closed}
+use Rattle.frames.specs.declared.close.Closed.the-variants as E
 
 -- ---- the frame check
 
@@ -121,3 +125,26 @@ only-fed d = only-outcome toldFed fed-one-to-one d
 pub only-known : (d : Scanner) {x y : code.Scanner} → known x ≡ d → known y ≡ d → x ≡ y
 unfolding scanner
 only-known d {x} {y} e f = ap scanner (e ∙ sym f)
+
+-- ---- closing
+
+closed : Told (ClosedAnswer Kind) → Closed
+closed (Accepted (close.Done s x)) = E.Done s (scanner x)
+closed (Accepted (close.Frame l s i k x)) = E.Frame l s i (kind k) (scanner x)
+closed (Refused n carried) = cond (eqb n 9) E.Size (cond (eqb n 11) E.State (E.Room (getD carried 0 0)))
+
+closed-again : (x : Closed) → closed (toldClosed x) ≡ x
+unfolding closed scanner kind
+closed-again (E.Done s x) = refl
+closed-again (E.Frame l s i Q.Rtcm x) = refl
+closed-again (E.Frame l s i Q.Ubx x) = refl
+closed-again E.Size = refl
+closed-again E.State = refl
+closed-again (E.Room n) = refl
+
+pub closed-one-to-one : OneToOne toldClosed
+closed-one-to-one = found-again toldClosed closed closed-again
+
+-- and the held areas and outputs that two runs leave are equal too
+pub only-closed : (d : Outcome (ClosedAnswer Kind) (List ℕ × List ℕ)) {x y : Closed} {s t : List ℕ × List ℕ} → outcome (toldClosed x) s ≡ d → outcome (toldClosed y) t ≡ d → (x ≡ y) × (s ≡ t)
+only-closed d = only-outcome toldClosed closed-one-to-one d

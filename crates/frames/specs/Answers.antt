@@ -5,6 +5,8 @@ use Rattle.bits.specs.Told.{Told, Accepted, size, room, noPreamble, badCheck, i
 use Rattle.frames.specs.Frame.{Whole}
 use Rattle.frames.specs.Call as call
 use Rattle.frames.specs.Call.{Scanner, FedAnswer}
+use Rattle.frames.specs.Close as close
+use Rattle.frames.specs.Close.{ClosedAnswer}
 use Rattle.frames.specs.Rtcm.{Kind, Rtcm, Ubx}
 use Rattle.frames.specs.Walk as walk
 use Rattle.frames.specs.Walk.{Place}
@@ -21,6 +23,8 @@ use Rattle.frames.specs.declared.scanner.Kind as kinds
 use Rattle.frames.specs.declared.scanner.Kind.the-variants as Q
 use Rattle.frames.specs.declared.scanner.Fed.{Fed}
 use Rattle.frames.specs.declared.scanner.Fed.the-variants as D
+use Rattle.frames.specs.declared.close.Closed.{Closed}
+use Rattle.frames.specs.declared.close.Closed.the-variants as E
 
 -- the message number, or that there is none
 abbrev pub toldNumber : Number → Option ℕ
@@ -61,3 +65,11 @@ toldFed (D.Frame l t s i k x) = Accepted (call.Frame l t s i (toldKind k) (known
 toldFed D.Size = size
 toldFed D.State = state
 toldFed (D.Room n) = room n
+
+-- a closing call: Done or a frame, or Size, State, Room with 1,029
+abbrev pub toldClosed : Closed → Told (ClosedAnswer Kind)
+toldClosed (E.Done s x) = Accepted (close.Done s (known x))
+toldClosed (E.Frame l s i k x) = Accepted (close.Frame l s i (toldKind k) (known x))
+toldClosed E.Size = size
+toldClosed E.State = state
+toldClosed (E.Room n) = room n

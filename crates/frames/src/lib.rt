@@ -1,6 +1,7 @@
 // Frames in a stream of bytes: one frame, the whole-stream scan, and the scanner over pieces.
 //
 // `specs/` says what each function answers: read it first. A refused call writes nothing.
+pub mod close;
 pub mod fate;
 pub mod frame;
 pub mod scan;

@@ -3,7 +3,7 @@
 // The search looks at bytes that are held and a piece behind them as one stream, which is nowhere copied together.
 ghost use mathlib.Core.Path.{_≡_};
 ghost use mathlib.Core.Bool.{true};
-ghost use mathlib.Core.List.{_++_};
+ghost use mathlib.Core.List.{[], _++_};
 ghost use Prim.Native.Nat.{_+_, _*_, _^_, _≤_, _<_, min, max};
 ghost use lib.ListN.{length, getD, take, drop};
 ghost use Rattle.bits.specs.Field.{field};
@@ -12,6 +12,7 @@ ghost use Rattle.frames.specs.Framing.{decide};
 ghost use Rattle.frames.specs.Feed.{feed};
 ghost use Rattle.frames.specs.Rtcm.{rtcm};
 ghost use Rattle.frames.specs.Modes.{framingOf};
+ghost use Rattle.frames.specs.Close.{ending};
 ghost use Rattle.frames.specs.Walk.{nextFrom};
 ghost use Rattle.frames.specs.Answers.{toldNext};
 ghost use Rattle.frames.specs.Steps.{startsRtcm, startsEither, startsIn, Start, seen, sight, among};
@@ -72,6 +73,33 @@ pub(crate) fn look(held: &[u8], piece: &[u8], mode: u32) -> Sight
             }
             Seen::NotValid(n) => {
                 end = most(end, j + n);
+                i = j + 1;
+            }
+        }
+    }
+    Sight::More(i)
+}
+
+// The first frame of the bytes held at the end of a recording, where nothing waits: an unfinished candidate is skipped by
+// one byte.
+pub(crate) fn look_last(held: &[u8], mode: u32) -> Sight
+    ensures { λ r. ⌜ r ≡ sight (feed (decide (ending (framingOf mode))) (now (held .entry)) []) ⌝ }
+{
+    let all = held.len();
+    let mut i: usize = 0;
+    while i < all {
+        let j = next_in(held, i, mode);
+        if all <= j {
+            return Sight::More(j);
+        }
+        match seen_at(held, &held[0..0], j, mode) {
+            Seen::Good(n) => {
+                return Sight::Frame(j, n, 0);
+            }
+            Seen::NotValid(_) => {
+                i = j + 1;
+            }
+            Seen::Incomplete => {
                 i = j + 1;
             }
         }

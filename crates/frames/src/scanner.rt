@@ -107,7 +107,7 @@ pub fn feed(held: &mut [u8], scanner: Scanner, piece: &[u8], out: &mut [u8]) -> 
 
 // Does what a search found: what stands behind the bytes to skip is held; or the frame there is handed out, and what
 // stands behind it is held.
-fn carry_out(
+pub(crate) fn carry_out(
     held: &mut [u8],
     scanner: Scanner,
     piece: &[u8],

@@ -30,7 +30,7 @@ pub record RefusedKeeps {Areas : Type 0} (before : Areas) (d : Returned Areas) :
 
 module _ {Areas : Type 0} (before : Areas) where
   -- an area of another size than it must have
-  sized-keeps : (sized : Bool) (e : List ℕ) (d : Returned Areas) → RefusedKeeps before d → RefusedKeeps before (ifSized sized e before d)
+  pub sized-keeps : (sized : Bool) (e : List ℕ) (d : Returned Areas) → RefusedKeeps before d → RefusedKeeps before (ifSized sized e before d)
   sized-keeps true e d k = k
   sized-keeps false e d k = record { kept = λ q n. ap (λ (x : Returned Areas). x .areas) q }
 

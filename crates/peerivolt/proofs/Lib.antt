@@ -5,3 +5,4 @@ pub mod OnlyLaws
 pub mod KeepLaws
 pub mod FeedLaws
 pub mod Examples
+pub mod ClosingLaws

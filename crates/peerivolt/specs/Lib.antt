@@ -11,3 +11,4 @@ pub mod Signals
 pub mod Biases
 pub mod Message1001
 pub mod Why
+pub mod Closing

@@ -2,6 +2,7 @@
 // rest over the extra area of eight numbers. `include/peerivolt.h` says the same to a C programmer.
 pub mod biases;
 pub mod blocks;
+pub mod closing;
 pub mod comparing;
 pub mod entries;
 mod extra;

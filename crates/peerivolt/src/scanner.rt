@@ -85,7 +85,7 @@ fn fed(answer: Fed) -> Reply
     }
 }
 
-fn kind_number(kind: Kind) -> u64
+pub(crate) fn kind_number(kind: Kind) -> u64
     ensures { λ r. ⌜ r ≡ kindNumber (toldKind kind) ⌝ }
 {
     match kind {

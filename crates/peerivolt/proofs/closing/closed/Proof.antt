@@ -1,0 +1,46 @@
+-- Each arm tells what its answer tells. Assumes nothing.
+use mathlib.Core.Path.{_∙_}
+use borrow.Author.Needs.{needs}
+use Rattle.frames.specs.Answers.{known, toldKind, toldClosed}
+use Rattle.peerivolt.specs.Closing.{closedValues}
+use Rattle.peerivolt.proofs.AnswerLaws.{tells}
+use Rattle.peerivolt.proofs.ClosingLaws.{kind-closed}
+use Rattle.peerivolt.proofs.closing.closed.Statement.{statement}
+use Rattle.peerivolt.proofs.closing.closed.Tie as tie
+
+returns : tie.Need-returns
+returns c = tells closedValues toldClosed (c .before .answer .given .1)
+
+returns-2 : tie.Need-returns-2
+returns-2 c =
+    let v = c .before .before .answer2 .given in
+    kind-closed (v .0 .0) (v .0 .1 .0) (v .0 .1 .1 .0) _ (toldKind (v .0 .1 .1 .1 .0)) (known (v .0 .1 .1 .1 .1 .0)) (c .kind-number .ensures)
+    ∙ tells closedValues toldClosed (v .1)
+
+returns-3 : tie.Need-returns-3
+returns-3 c = c .bare .ensures ∙ tells closedValues toldClosed (c .before .enum-told .given .1)
+
+returns-4 : tie.Need-returns-4
+returns-4 c = c .bare2 .ensures ∙ tells closedValues toldClosed (c .before .enum-told2 .given .1)
+
+returns-5 : tie.Need-returns-5
+returns-5 c = c .with-one .ensures ∙ tells closedValues toldClosed (c .before .before .answer3 .given .1)
+
+pub closed-spec : {M : Type 1} → statement M
+closed-spec =
+    tie.close
+    (tie.spec
+    (λ c. search needs)
+    (λ c. search needs)
+    (λ c κs. search needs)
+    (λ c. search needs)
+    (λ c κs. search needs)
+    (λ c. search needs)
+    (λ c κs. search needs)
+    (λ c. search needs)
+    (λ c κs. search needs)
+    returns
+    returns-2
+    returns-3
+    returns-4
+    returns-5)
