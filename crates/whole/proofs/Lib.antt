@@ -1,0 +1,9 @@
+pub mod TakeLaws
+pub mod Front1059
+pub mod Front1230
+pub mod Header1059
+pub mod Header1230
+pub mod Read1059Laws
+pub mod Read1230Laws
+pub mod Write1059Laws
+pub mod Write1230Laws
