@@ -88,19 +88,19 @@ pub(crate) fn look_last(held: &[u8], mode: u32) -> Sight
     let all = held.len();
     let mut i: usize = 0;
     while i < all {
-        let j = next_in(held, i, mode);
-        if all <= j {
-            return Sight::More(j);
+        let at = next_in(held, i, mode);
+        if all <= at {
+            return Sight::More(at);
         }
-        match seen_at(held, &held[0..0], j, mode) {
+        match seen_at(held, &held[0..0], at, mode) {
             Seen::Good(n) => {
-                return Sight::Frame(j, n, 0);
+                return Sight::Frame(at, n, 0);
             }
             Seen::NotValid(_) => {
-                i = j + 1;
+                i = at + 1;
             }
             Seen::Incomplete => {
-                i = j + 1;
+                i = at + 1;
             }
         }
     }
