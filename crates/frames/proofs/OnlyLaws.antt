@@ -1,12 +1,13 @@
 -- For each public function of one frame and of the scan: two answers that its statement allows are equal. Assumes nothing.
 use mathlib.Core.Path.{_≡_, refl, sym, ap, _∙_}
-use mathlib.Core.List.{List}
+use mathlib.Core.List.{List, _++_}
 use mathlib.Core.Option.{Option, none, some}
 use Prim.Native.Nat.{ℕ}
 use Rattle.bits.specs.Outcome.{outcome}
 use Rattle.bits.specs.Part.{Lent, lent, within}
 use Rattle.frames.specs.Frame.{numberOf, check, framePart, dataPart, insidePart, writeFrame}
 use Rattle.frames.specs.Rtcm.{rtcm}
+use Rattle.frames.specs.Modes.{framingOf}
 use Rattle.frames.specs.Walk.{nextFrom}
 use Rattle.frames.specs.Answers.{toldNumber, toldChecked, toldFramed, toldNext}
 use Rattle.frames.specs.declared.frame.Number.{Number}
@@ -50,3 +51,6 @@ only-write d out = only-framed (writeFrame d out)
 
 pub only-next-frame : (s : List ℕ) (from : ℕ) {x y : Next} → toldNext x ≡ nextFrom rtcm s from → toldNext y ≡ nextFrom rtcm s from → x ≡ y
 only-next-frame s from e f = next-one-to-one .same (e ∙ sym f)
+
+pub only-next-across : (h p : List ℕ) (from mode : ℕ) {x y : Next} → toldNext x ≡ nextFrom (framingOf mode) (h ++ p) from → toldNext y ≡ nextFrom (framingOf mode) (h ++ p) from → x ≡ y
+only-next-across h p from mode e f = next-one-to-one .same (e ∙ sym f)

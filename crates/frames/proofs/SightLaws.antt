@@ -24,18 +24,6 @@ use Rattle.frames.proofs.AnswerLaws.{held-count, stays-within}
 use Rattle.frames.proofs.ModeLaws.{lawful}
 use Rattle.frames.proofs.KindLaws.{KindFed, kind-fed}
 
--- the places are within what is held and taken
-module _ (h p : List ℕ) where
-  abbrev pub Inside : Sight → Type 0
-  Inside (s.More i) = i ≤ length h + length p
-  Inside (s.Frame i n t) = (t ≤ length p) × (i + n ≤ length h + t)
-
-  pub inside : {W K : Type 0} (r : Fed W K) → Kept h p r → Inside (sight r)
-  inside (fed.More t is g) k = omega (arith, simp length-append at (ap length (k .1 .bytes)), bytes-alone is (k .1 .none))
-  inside (fed.Frame t is x f g) k =
-      let e = simp (length-append, length-take-le t p (k .0)) at (ap length (k .1 .bytes)) in
-      (k .0, omega (arith, e, bytes-alone is (k .1 .none)))
-
 module _ (a : List ℕ) (x : Scanner) (p o : List ℕ) (count : length (take (x .count) a) ≡ x .count) where
   abbrev h : List ℕ
   h = take (x .count) a

@@ -1,11 +1,11 @@
 -- The whole-stream scan, one frame at a time: the next frame is where the search finds it, and call after call gives the scan. Assumes nothing.
-use mathlib.Core.Path.{_≡_, refl, sym, ap, ap₂, _∙_, subst}
+use mathlib.Core.Path.{_≡_, refl, sym, ap, ap₂, _∙_}
 use mathlib.Core.List.{List, [], _∷_, _++_, append-assoc, append-nil, map}
 use Prim.Native.Nat.{ℕ, zero, suc, _+_, _-_, _≤_, min}
-use native.Mathlib.Nat.{add-zero}
+use native.Mathlib.Nat.{add-zero, add-sub-of-le}
 use native.Mathlib.Omega.{arith}
 use lib.ListN.{length, take, drop, length-append, length-drop}
-use lib.Seq.{take-append-le, take-all, drop-drop, append-snoc, length-take-le}
+use lib.Seq.{take-append-le, take-all, drop-drop, drop-append-le, drop-append-add, append-snoc, length-take-le}
 use Rattle.bits.specs.Told.{Accepted}
 use Rattle.frames.specs.Scan.{Decision, Item, Skipped, Framed, after, scan, framesOf, placed}
 use Rattle.frames.specs.Framing.{Framing, Lawful, decide}
@@ -13,22 +13,16 @@ use Rattle.frames.specs.Feed as fed
 use Rattle.frames.specs.Feed.{Next, Held, Found, skipping, next, Fed, past, feed}
 use Rattle.frames.specs.Walk as walk
 use Rattle.frames.specs.Walk.{Place, placeOf, nextFrom, framesAt, cut, Walked, last, then}
-use Rattle.frames.specs.Steps.{sight}
+use Rattle.frames.specs.Steps.{sight, placeSeen}
 use Rattle.frames.specs.declared.scan.Sight.{Sight}
 use Rattle.frames.specs.declared.scan.Sight.the-variants as sights
 use Rattle.frames.proofs.FramingLaws.{Whole, Decides, decides}
 use Rattle.frames.proofs.ItemLaws.{frames-append}
 use Rattle.frames.proofs.FeedInduction.{along-next, along-feed}
 use Rattle.frames.proofs.FeedLaws.{begins, scan-next}
-use Rattle.frames.proofs.KeptLaws.{kept, KeptNext, kept-next, bytes-alone, rest-is, front-is, back-is}
-use Rattle.frames.proofs.SightLaws.{Inside, inside}
+use Rattle.frames.proofs.KeptLaws.{KeptNext, kept-next, bytes-alone, rest-is, front-is, back-is}
 
 -- ---- a search finds the next frame
-
--- what a search found, in bytes whose first stands at place n
-abbrev pub placeSeen : ℕ → Sight → Place
-placeSeen n (sights.More i) = walk.Held (n + i)
-placeSeen n (sights.Frame i l t) = walk.Frame (n + i) l
 
 module _ {W K : Type 0} (d : List ℕ → Decision W K) where
   -- the next frame of bytes that begin as r says, where the bytes p follow
@@ -82,36 +76,13 @@ module _ {W K : Type 0} (F : Framing W K) (s : List ℕ) (from : ℕ) where
       none-left [] e = refl
       none-left (x ∷ l) e = absurd (omega arith)
 
-  -- before it, what a search of the bytes from there on tells
-  module _ (L : Lawful F) (l : from ≤ length s) (r : Sight) (e : r ≡ sight (feed (decide F) [] (take (length s - from) (drop from s)))) where
-    by-search : r ≡ sight (feed (decide F) [] (drop from s))
-    by-search = e ∙ ap (λ p. sight (feed (decide F) [] p)) (take-all (length s - from) (drop from s) (rw length-drop (omega arith)))
-
-    tells : Accepted (placeSeen from r) ≡ nextFrom F s from
-    unfolding nextFrom
-    tells =
-        let m : from ≡ min from (length s) = omega arith in
-        ap Accepted
-        (ap (placeSeen from) by-search ∙ place-fed (decide F) (decides F L) (drop from s) [] from ∙ ap (λ n. placeOf n (next (decide F) (drop from s))) m)
-
-    there : Inside [] (drop from s) r
-    there = subst (Inside [] (drop from s)) (sym by-search) (inside [] (drop from s) (feed (decide F) [] (drop from s)) (kept (decide F) (drop from s) []))
-
-    module _ (i : ℕ) (q : r ≡ sights.More i) where
-      pub held-fits : from + i ≤ length s
-      held-fits = let w : i ≤ 0 + length (drop from s) = subst (Inside [] (drop from s)) q there in omega (arith, length-drop from s)
-
-      pub held-at : Accepted (walk.Held (from + i)) ≡ nextFrom F s from
-      held-at = ap (λ x. Accepted (placeSeen from x)) (sym q) ∙ tells
-
-    module _ (i n t : ℕ) (q : r ≡ sights.Frame i n t) where
-      pub frame-fits : from + i ≤ length s
-      frame-fits =
-          let w : (t ≤ length (drop from s)) × (i + n ≤ 0 + t) = subst (Inside [] (drop from s)) q there in
-          omega (arith, length-drop from s)
-
-      pub frame-at : Accepted (walk.Frame (from + i) n) ≡ nextFrom F s from
-      frame-at = ap (λ x. Accepted (placeSeen from x)) (sym q) ∙ tells
+  -- before it, what a search of the bytes from there on tells, in whatever two parts they lie
+  pub tells-across : Lawful F → from ≤ length s → (h p : List ℕ) → h ++ p ≡ drop from s → (r : Sight) → r ≡ sight (feed (decide F) h p) → Accepted (placeSeen from r) ≡ nextFrom F s from
+  unfolding nextFrom
+  tells-across L l h p q r e =
+      let m : from ≡ min from (length s) = omega arith in
+      ap Accepted
+      (ap (placeSeen from) e ∙ place-fed (decide F) (decides F L) p h from ∙ ap (λ t. placeOf from (next (decide F) t)) q ∙ ap (λ n. placeOf n (next (decide F) (drop from s))) m)
 
 -- ---- call after call, the whole-stream scan
 
@@ -266,3 +237,44 @@ module _ {W K : Type 0} (F : Framing W K) (s : List ℕ) where
     -- Every walk ends.
     pub ends : (from : ℕ) → from ≤ length s → (fs : List Place) × (m : ℕ) × Walked F s from fs m
     ends from l = ends-by (length s) from l (omega arith)
+
+-- ---- the bytes in two parts, as the code has them
+
+module _ {W K : Type 0} (F : Framing W K) (L : Lawful F) (h p : List ℕ) (from : ℕ) where
+  pub past-both : length h + length p ≤ from → Accepted (walk.Held (length h + length p)) ≡ nextFrom F (h ++ p) from
+  past-both l = ap (λ n. Accepted (walk.Held n)) (sym (length-append h p)) ∙ past-end F (h ++ p) from (rw length-append l)
+
+  module _ (r : Sight) where
+    -- the place lies in the second part
+    pub tells-right : length h ≤ from → from ≤ length h + length p
+        → r ≡ sight (feed (decide F) [] (take (length p - (from - length h)) (drop (from - length h) p))) → Accepted (placeSeen from r) ≡ nextFrom F (h ++ p) from
+    tells-right l m e =
+        let q : take (length p - (from - length h)) (drop (from - length h) p) ≡ drop from (h ++ p) =
+        take-all (length p - (from - length h)) (drop (from - length h) p) (rw length-drop (omega arith))
+        ∙ sym (drop-append-add h p (from - length h)) ∙ ap (λ k. drop k (h ++ p)) (add-sub-of-le l) in
+        tells-across F (h ++ p) from L (rw length-append m) [] (take (length p - (from - length h)) (drop (from - length h) p)) q r e
+
+    -- or in the first
+    pub tells-left : from ≤ length h → r ≡ sight (feed (decide F) (take (length h - from) (drop from h)) p) → Accepted (placeSeen from r) ≡ nextFrom F (h ++ p) from
+    tells-left l e =
+        let q : take (length h - from) (drop from h) ++ p ≡ drop from (h ++ p) =
+        ap (λ k. k ++ p) (take-all (length h - from) (drop from h) (rw length-drop (omega arith))) ∙ sym (drop-append-le from h p l) in
+        tells-across F (h ++ p) from L (rw length-append (omega arith)) (take (length h - from) (drop from h)) p q r e
+
+    module _ (l : from ≤ length h + length p) (e : Accepted (placeSeen from r) ≡ nextFrom F (h ++ p) from) where
+      within : from ≤ length (h ++ p)
+      within = rw length-append l
+
+      module _ (i : ℕ) (q : r ≡ sights.More i) where
+        pub held-across : Accepted (walk.Held (from + i)) ≡ nextFrom F (h ++ p) from
+        held-across = ap (λ x. Accepted (placeSeen from x)) (sym q) ∙ e
+
+        pub held-reaches : from + i ≤ length h + length p
+        held-reaches = omega (arith, stops F (h ++ p) L from within (from + i) (sym held-across) .fits, length-append h p)
+
+      module _ (i n t : ℕ) (q : r ≡ sights.Frame i n t) where
+        pub frame-across : Accepted (walk.Frame (from + i) n) ≡ nextFrom F (h ++ p) from
+        frame-across = ap (λ x. Accepted (placeSeen from x)) (sym q) ∙ e
+
+        pub frame-reaches : from + i + n ≤ length h + length p
+        frame-reaches = omega (arith, finds F (h ++ p) L from within (from + i) n (sym frame-across) .fits, length-append h p)

@@ -14,6 +14,8 @@ use Rattle.frames.specs.Feed as fed
 use Rattle.frames.specs.Call as call
 use Rattle.frames.specs.Call.{Scanner, heldFrom, onwards, FedOutcome}
 use Rattle.frames.specs.Rtcm.{Kind, Rtcm, Ubx}
+use Rattle.frames.specs.Walk as walk
+use Rattle.frames.specs.Walk.{Place}
 use Rattle.frames.specs.declared.scan.Seen.{Seen}
 use Rattle.frames.specs.declared.scan.Seen.the-variants.{Incomplete, NotValid, Good}
 use Rattle.frames.specs.declared.scan.Sight.{Sight}
@@ -55,6 +57,11 @@ seen F s = seenBy (decide F s) (F .need s)
 abbrev pub sight : {W K : Type 0} → fed.Fed W K → Sight
 sight (fed.More t is h) = More (length is)
 sight (fed.Frame t is k f h) = Frame (length is) (length f) t
+
+-- what a search found, in bytes whose first stands at place n
+abbrev pub placeSeen : ℕ → Sight → Place
+placeSeen n (More i) = walk.Held (n + i)
+placeSeen n (Frame i l t) = walk.Frame (n + i) l
 
 -- The places found lie within the n bytes held and the m bytes of the piece, and what is left has room in an area of so many bytes.
 abbrev pub Movable : (area n m : ℕ) → Sight → Type 0

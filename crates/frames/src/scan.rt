@@ -6,6 +6,7 @@ ghost use mathlib.Core.Bool.{true};
 ghost use mathlib.Core.List.{[], _++_};
 ghost use Prim.Native.Nat.{_+_, _*_, _^_, _≤_, _<_, min, max};
 ghost use lib.ListN.{length, getD, take, drop};
+ghost use Rattle.bits.specs.Told.{Accepted};
 ghost use Rattle.bits.specs.Field.{field};
 ghost use Rattle.bits.specs.Crc.{crc};
 ghost use Rattle.frames.specs.Framing.{decide};
@@ -15,7 +16,7 @@ ghost use Rattle.frames.specs.Modes.{framingOf};
 ghost use Rattle.frames.specs.Close.{ending};
 ghost use Rattle.frames.specs.Walk.{nextFrom};
 ghost use Rattle.frames.specs.Answers.{toldNext};
-ghost use Rattle.frames.specs.Steps.{startsRtcm, startsEither, startsIn, Start, seen, sight, among};
+ghost use Rattle.frames.specs.Steps.{startsRtcm, startsEither, startsIn, Start, seen, sight, placeSeen, among};
 use crate::frame;
 use crate::ubx;
 use bits::crc;
@@ -30,17 +31,36 @@ pub enum Next {
 pub fn next_frame(bytes: &[u8], from: usize) -> Next
     ensures { λ r. ⌜ toldNext r ≡ nextFrom rtcm (now (bytes .entry)) from ⌝ }
 {
-    let all = bytes.len();
+    next_across(&bytes[0..0], bytes, from, 0)
+}
+
+// The next frame of the held bytes with the piece behind them, from a place on: in mode 0 of RTCM, else of either kind.
+pub fn next_across(held: &[u8], piece: &[u8], from: usize, mode: u32) -> Next
+    ensures { λ r. ⌜ toldNext r ≡ nextFrom (framingOf mode) (now (held .entry) ++ now (piece .entry)) from ⌝ }
+{
+    let all = held.len() + piece.len();
     if all <= from {
         return Next::Held(all);
     }
-    match look(&bytes[0..0], &bytes[from..all], 0) {
+    match look_from(held, piece, from, mode) {
         Sight::More(i) => Next::Held(from + i),
         Sight::Frame(i, length, _) => Next::Frame {
             place: from + i,
             length,
         },
     }
+}
+
+// What a search finds from a place on, which lies in the held bytes or in the piece.
+fn look_from(held: &[u8], piece: &[u8], from: usize, mode: u32) -> Sight
+    requires { ⌜ from ≤ length (now held) + length (now piece) ⌝ }
+    ensures { λ r. ⌜ Accepted (placeSeen from r) ≡ nextFrom (framingOf mode) (now (held .entry) ++ now (piece .entry)) from ⌝ }
+{
+    let h = held.len();
+    if h <= from {
+        return look(&held[0..0], &piece[from - h..piece.len()], mode);
+    }
+    look(&held[from..h], piece, mode)
 }
 
 // What a search finds. More: no frame, and so many bytes to skip. Frame: the bytes to skip before it, its length, and the
