@@ -118,7 +118,7 @@ $(B)/pic/%_table.o: c/%.c Makefile
 
 # ---- Programs.
 
-TESTS := test_calls test_1001 test_random test_recordings test_answers
+TESTS := test_calls test_messages test_1001 test_random test_recordings test_answers
 PROGRAMS := $(TESTS) relay
 HELPERS := crumbs expected
 
@@ -185,6 +185,7 @@ check-header:
 check-opt: $(TESTS:%=$(B)/opt/%) $(B)/opt/test_calls_shared
 	$(B)/opt/test_calls
 	$(B)/opt/test_calls_shared
+	$(B)/opt/test_messages 40000
 	$(B)/opt/test_1001 40000 every
 	$(B)/opt/test_random 120000
 	$(B)/opt/test_recordings $(RECORDINGS)
@@ -192,6 +193,7 @@ check-opt: $(TESTS:%=$(B)/opt/%) $(B)/opt/test_calls_shared
 
 check-san: $(TESTS:%=$(B)/san/%)
 	$(B)/san/test_calls
+	$(B)/san/test_messages 5000
 	$(B)/san/test_1001 10000
 	$(B)/san/test_random 40000
 	$(B)/san/test_recordings $(RECORDINGS)
@@ -200,7 +202,7 @@ check-san: $(TESTS:%=$(B)/san/%)
 check-valgrind: $(TESTS:%=$(B)/opt/%)
 	@if command -v valgrind >/dev/null; then \
 	    run() { echo "valgrind $$*"; valgrind -q --error-exitcode=1 --leak-check=full --errors-for-leak-kinds=definite "$$@"; }; \
-	    run $(B)/opt/test_calls && run $(B)/opt/test_1001 500 && run $(B)/opt/test_random 2000 && run $(B)/opt/test_recordings $(RECORDINGS) && \
+	    run $(B)/opt/test_calls && run $(B)/opt/test_messages 100 && run $(B)/opt/test_1001 500 && run $(B)/opt/test_random 2000 && run $(B)/opt/test_recordings $(RECORDINGS) && \
 	    run $(B)/opt/test_answers $(ANSWERS); \
 	else \
 	    echo "valgrind: skipped, since it is not here"; \

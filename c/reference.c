@@ -897,6 +897,129 @@ uint32_t ref_1230_write(uint8_t *data, size_t data_len, size_t start, const uint
     return accept_one(extra, place);
 }
 
+/* ---- Whole messages: a front of numbers, and the block behind it. ---- */
+
+/* The numbers before the block, and how many bits each has; the first is the message number. */
+struct front {
+    size_t count;
+    size_t widths[7];
+    uint64_t numbers[7];
+};
+
+/* Reads the front of the message whose number stands in it; 0, or a refusal. */
+static uint32_t read_front(const uint8_t *data, size_t data_len, struct front *front, uint64_t *extra)
+{
+    struct cursor cursor = { data, data_len, 0, 0, 0 };
+    for (size_t k = 0; k < front->count; k++) {
+        uint64_t number = next_field(&cursor, front->widths[k]);
+        if (cursor.is_short)
+            return refuse_short(extra, data_len, cursor.place, cursor.width);
+        if (k == 0 && number != front->numbers[0])
+            return refuse(extra, PV_KIND, 0);
+        front->numbers[k] = number;
+    }
+    return PV_ACCEPTED;
+}
+
+static int front_fits(const struct front *front)
+{
+    for (size_t k = 0; k < front->count; k++)
+        if (!fits_unsigned(front->numbers[k], front->widths[k]))
+            return 0;
+    return 1;
+}
+
+/* Finishes an answer of the block's writer: the front goes before the block, or into what Room carries. */
+static uint32_t finish_front(uint8_t *data, const struct front *front, uint32_t refusal, uint64_t *extra)
+{
+    size_t place = 0;
+    for (size_t k = 0; k < front->count; place += front->widths[k++])
+        if (refusal == PV_ACCEPTED)
+            put_field(data, place, front->widths[k], front->numbers[k]);
+    if (refusal == PV_ROOM)
+        extra[PV_AT_CARRIED] += place;
+    return refusal;
+}
+
+/* The header's numbers behind the count and the end bit. */
+static uint32_t tell_front(const struct front *front, uint32_t refusal, uint64_t *extra)
+{
+    for (size_t k = 1; k < front->count && refusal == PV_ACCEPTED; k++)
+        extra[1 + k] = front->numbers[k];
+    return refusal;
+}
+
+uint32_t ref_1059_message_read(const uint8_t *data, size_t data_len, uint8_t *satellites, size_t satellites_len,
+                               uint8_t *signals, size_t signals_len, int16_t *biases, size_t biases_len,
+                               uint64_t *extra, size_t extra_len)
+{
+    struct front front = { 7, { 12, 20, 4, 1, 4, 16, 4 }, { 1059 } };
+    if (extra_len != PV_EXTRA_SIZE)
+        return PV_SIZE;
+    if (data_len > PV_DATA_MAX || satellites_len != signals_len || satellites_len != biases_len)
+        return refuse(extra, PV_SIZE, 0);
+    uint32_t refusal = read_front(data, data_len, &front, extra);
+    if (refusal != PV_ACCEPTED)
+        return refusal;
+    return tell_front(&front, ref_1059_read(data, data_len, 61, satellites, satellites_len, signals, signals_len, biases,
+                                            biases_len, extra, extra_len),
+                      extra);
+}
+
+uint32_t ref_1059_message_write(uint32_t edition, uint8_t *data, size_t data_len, uint32_t epoch, uint32_t interval,
+                                uint32_t multiple, uint32_t iod, uint32_t provider, uint32_t solution,
+                                const uint8_t *satellites, size_t satellites_len, const uint8_t *signals,
+                                size_t signals_len, const int16_t *biases, size_t biases_len,
+                                uint64_t *extra, size_t extra_len)
+{
+    const struct front front = { 7,
+                                 { 12, 20, 4, 1, 4, 16, 4 },
+                                 { 1059, epoch, interval, multiple, iod, provider, solution } };
+    if (extra_len != PV_EXTRA_SIZE)
+        return PV_SIZE;
+    if (!is_edition(edition))
+        return refuse(extra, PV_KIND, 0);
+    size_t count = satellites_len;
+    if (data_len > PV_DATA_MAX || count != signals_len || count != biases_len || count > PV_1059_WRITE_MAX)
+        return refuse(extra, PV_SIZE, 0);
+    if (!front_fits(&front))
+        return refuse(extra, PV_RANGE, 0);
+    return finish_front(data, &front, ref_1059_write(edition, data, data_len, 61, satellites, satellites_len, signals,
+                                                     signals_len, biases, biases_len, extra, extra_len),
+                        extra);
+}
+
+uint32_t ref_1230_message_read(const uint8_t *data, size_t data_len, uint8_t *signals, size_t signals_len,
+                               int16_t *biases, size_t biases_len, uint64_t *extra, size_t extra_len)
+{
+    struct front front = { 4, { 12, 12, 1, 3 }, { 1230 } };
+    if (extra_len != PV_EXTRA_SIZE)
+        return PV_SIZE;
+    if (data_len > PV_DATA_MAX || signals_len != biases_len)
+        return refuse(extra, PV_SIZE, 0);
+    uint32_t refusal = read_front(data, data_len, &front, extra);
+    if (refusal != PV_ACCEPTED)
+        return refusal;
+    return tell_front(&front, ref_1230_read(data, data_len, 28, signals, signals_len, biases, biases_len, extra, extra_len),
+                      extra);
+}
+
+uint32_t ref_1230_message_write(uint8_t *data, size_t data_len, uint32_t station, uint32_t indicator, uint32_t reserved,
+                                const uint8_t *signals, size_t signals_len, const int16_t *biases, size_t biases_len,
+                                uint64_t *extra, size_t extra_len)
+{
+    const struct front front = { 4, { 12, 12, 1, 3 }, { 1230, station, indicator, reserved } };
+    if (extra_len != PV_EXTRA_SIZE)
+        return PV_SIZE;
+    if (data_len > PV_DATA_MAX || signals_len != biases_len || signals_len > PV_1230_MAX)
+        return refuse(extra, PV_SIZE, 0);
+    if (!front_fits(&front))
+        return refuse(extra, PV_RANGE, 0);
+    return finish_front(data, &front, ref_1230_write(data, data_len, 28, signals, signals_len, biases, biases_len, extra,
+                                                     extra_len),
+                        extra);
+}
+
 /* ---- Metres. ---- */
 
 float ref_1059_metres(int16_t raw)

@@ -68,6 +68,21 @@ float ref_1230_metres(int16_t raw);
 
 uint32_t ref_1059_signal_of(uint32_t edition, uint32_t number, uint64_t *extra, size_t extra_len);
 uint32_t ref_1059_number_of(uint32_t edition, uint32_t band, uint32_t letter, uint64_t *extra, size_t extra_len);
+
+uint32_t ref_1059_message_read(const uint8_t *data, size_t data_len, uint8_t *satellites, size_t satellites_len,
+                               uint8_t *signals, size_t signals_len, int16_t *biases, size_t biases_len,
+                               uint64_t *extra, size_t extra_len);
+uint32_t ref_1059_message_write(uint32_t edition, uint8_t *data, size_t data_len, uint32_t epoch, uint32_t interval,
+                                uint32_t multiple, uint32_t iod, uint32_t provider, uint32_t solution,
+                                const uint8_t *satellites, size_t satellites_len, const uint8_t *signals,
+                                size_t signals_len, const int16_t *biases, size_t biases_len,
+                                uint64_t *extra, size_t extra_len);
+uint32_t ref_1230_message_read(const uint8_t *data, size_t data_len, uint8_t *signals, size_t signals_len,
+                               int16_t *biases, size_t biases_len, uint64_t *extra, size_t extra_len);
+uint32_t ref_1230_message_write(uint8_t *data, size_t data_len, uint32_t station, uint32_t indicator, uint32_t reserved,
+                                const uint8_t *signals, size_t signals_len, const int16_t *biases, size_t biases_len,
+                                uint64_t *extra, size_t extra_len);
+
 uint32_t ref_1001_read(const uint8_t *data, size_t data_len, uint8_t *satellites, size_t satellites_len, uint8_t *codes,
                        size_t codes_len, uint32_t *pseudoranges, size_t pseudoranges_len, int32_t *phases,
                        size_t phases_len, uint8_t *locks, size_t locks_len, uint64_t *extra, size_t extra_len);

@@ -177,6 +177,38 @@ uint32_t pv_1059_write(uint32_t edition, uint8_t *data, size_t data_len, size_t 
                               biases, biases_len, extra, extra_len);
 }
 
+uint32_t pv_1059_message_read(const uint8_t *data, size_t data_len, uint8_t *satellites, size_t satellites_len,
+                              uint8_t *signals, size_t signals_len, int16_t *biases, size_t biases_len,
+                              uint64_t *extra, size_t extra_len)
+{
+    return ref_1059_message_read(data, data_len, satellites, satellites_len, signals, signals_len, biases, biases_len,
+                                 extra, extra_len);
+}
+
+uint32_t pv_1059_message_write(uint32_t edition, uint8_t *data, size_t data_len, uint32_t epoch, uint32_t interval,
+                               uint32_t multiple, uint32_t iod, uint32_t provider, uint32_t solution,
+                               const uint8_t *satellites, size_t satellites_len, const uint8_t *signals,
+                               size_t signals_len, const int16_t *biases, size_t biases_len,
+                               uint64_t *extra, size_t extra_len)
+{
+    return ref_1059_message_write(edition, data, data_len, epoch, interval, multiple, iod, provider, solution, satellites,
+                                  satellites_len, signals, signals_len, biases, biases_len, extra, extra_len);
+}
+
+uint32_t pv_1230_message_read(const uint8_t *data, size_t data_len, uint8_t *signals, size_t signals_len,
+                              int16_t *biases, size_t biases_len, uint64_t *extra, size_t extra_len)
+{
+    return ref_1230_message_read(data, data_len, signals, signals_len, biases, biases_len, extra, extra_len);
+}
+
+uint32_t pv_1230_message_write(uint8_t *data, size_t data_len, uint32_t station, uint32_t indicator, uint32_t reserved,
+                               const uint8_t *signals, size_t signals_len, const int16_t *biases, size_t biases_len,
+                               uint64_t *extra, size_t extra_len)
+{
+    return ref_1230_message_write(data, data_len, station, indicator, reserved, signals, signals_len, biases, biases_len,
+                                  extra, extra_len);
+}
+
 float pv_1059_metres(int16_t raw)
 {
     return ref_1059_metres(raw);

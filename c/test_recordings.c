@@ -1,6 +1,7 @@
 /*
  * Real recordings, scanned whole by repeated frame checks and in pieces of 1, 7, 1,460 and 65,536 bytes: the counts are
- * known, whatever the cut. The bias blocks in them are read, held to what another program decoded, and written back.
+ * known, whatever the cut. The bias blocks in them are read, held to what another program decoded, and written
+ * back; whole messages 1230 are written back byte for byte.
  *
  * Usage: test_recordings FILE..   where a FILE is known by its last name
  */
@@ -125,6 +126,26 @@ static void turn_block(uint8_t *copy, const uint8_t *data, size_t data_len, uint
         copy[bit / 8] ^= (uint8_t)(0x80 >> bit % 8);
 }
 
+/* Writes the records as a whole message behind a header, and reads it back. */
+static void whole_1059(const uint8_t *satellites, const uint8_t *signals, const int16_t *biases, size_t n)
+{
+    static uint8_t data[PV_DATA_MAX], satellites_again[PV_1059_READ_MAX], signals_again[PV_1059_READ_MAX];
+    static int16_t biases_again[PV_1059_READ_MAX];
+    const struct pv_1059_header header = { 345600, 2, 1, 15, 258, 1 };
+    struct pv_1059_header again = { 0, 0, 0, 0, 0, 0 };
+    uint64_t extra[PV_EXTRA_SIZE];
+    CHECK_EQ(pv_1059_message_put(1, data, sizeof data, &header, satellites, n, signals, n, biases, n, extra, PV_EXTRA_SIZE),
+             PV_ACCEPTED);
+    uint64_t end = extra[PV_AT_WRITTEN_END];
+    CHECK_EQ(pv_1059_message_get(data, sizeof data, &again, satellites_again, PV_1059_READ_MAX, signals_again,
+                                 PV_1059_READ_MAX, biases_again, PV_1059_READ_MAX, extra, PV_EXTRA_SIZE), PV_ACCEPTED);
+    CHECK_EQ(extra[PV_AT_READ_RECORDS], n);
+    CHECK_EQ(extra[PV_AT_READ_END], end);
+    CHECK(memcmp(&header, &again, sizeof header) == 0);
+    CHECK(memcmp(satellites, satellites_again, n) == 0 && memcmp(signals, signals_again, n) == 0);
+    CHECK(memcmp(biases, biases_again, n * sizeof biases[0]) == 0);
+}
+
 /* Reads the block, holds it to what is known, and writes it back to the same bits. */
 static void visit_1059(const uint8_t *frame, size_t data_len, size_t place)
 {
@@ -146,6 +167,22 @@ static void visit_1059(const uint8_t *frame, size_t data_len, size_t place)
              PV_ACCEPTED);
     CHECK_EQ(extra[PV_AT_WRITTEN_END], end);
     CHECK(memcmp(copy, frame + 3, data_len) == 0);
+    whole_1059(satellites, signals, biases, n);
+}
+
+/* Reads the whole message, and writes it back into zeros to the same bytes. */
+static void whole_1230(const uint8_t *data, size_t data_len)
+{
+    uint8_t signals[PV_1230_MAX], copy[PV_DATA_MAX] = { 0 };
+    int16_t biases[PV_1230_MAX];
+    struct pv_1230_header header = { 0, 0, 0 };
+    uint64_t extra[PV_EXTRA_SIZE];
+    CHECK_EQ(pv_1230_message_get(data, data_len, &header, signals, PV_1230_MAX, biases, PV_1230_MAX, extra, PV_EXTRA_SIZE),
+             PV_ACCEPTED);
+    size_t n = extra[PV_AT_READ_RECORDS];
+    CHECK_EQ((extra[PV_AT_READ_END] + 7) / 8, data_len);
+    CHECK_EQ(pv_1230_message_put(copy, data_len, &header, signals, n, biases, n, extra, PV_EXTRA_SIZE), PV_ACCEPTED);
+    CHECK(memcmp(copy, data, data_len) == 0);
 }
 
 static void visit_1230(const uint8_t *frame, size_t data_len)
@@ -162,6 +199,7 @@ static void visit_1230(const uint8_t *frame, size_t data_len)
     CHECK_EQ(pv_1230_write(copy, data_len, BLOCK_1230_START, signals, n, biases, n, extra, PV_EXTRA_SIZE), PV_ACCEPTED);
     CHECK(memcmp(copy, frame + 3, data_len) == 0);
     CHECK(n == 0 || n == PV_1230_MAX);
+    whole_1230(frame + 3, data_len);
     for (size_t i = 0; i < n; i++) {
         CHECK_EQ(signals[i], signals_1230[i]);
         CHECK_EQ(biases[i], -3597);

@@ -1,5 +1,5 @@
 /*
- * peerivolt.h: RTCM 3 frames, a scanner over pieces of a stream, bit fields, and the bias blocks of messages 1059 and 1230.
+ * peerivolt.h: RTCM 3 frames, a scanner over pieces of a stream, bit fields, and messages 1059 and 1230 with their bias blocks.
  *
  * The shortest useful program reads pieces, feeds them and gets whole frames:
  *
@@ -142,6 +142,17 @@ static inline const char *pv_refusal_name(uint32_t number)
 #define PV_AT_READ_RECORDS 0 /* Block read: how many records. */
 #define PV_AT_READ_END 1     /* Block read: the bit behind the block. */
 #define PV_AT_WRITTEN_END 0  /* Block written: the bit behind the block. */
+
+#define PV_AT_1059_EPOCH 2    /* Message 1059 read: the GPS epoch time in s, */
+#define PV_AT_1059_INTERVAL 3 /* the update interval, */
+#define PV_AT_1059_MULTIPLE 4 /* the multiple message flag, */
+#define PV_AT_1059_IOD 5      /* the issue of data, */
+#define PV_AT_1059_PROVIDER 6 /* the provider, */
+#define PV_AT_1059_SOLUTION 7 /* the solution. */
+
+#define PV_AT_1230_STATION 2   /* Message 1230 read: the reference station, */
+#define PV_AT_1230_INDICATOR 3 /* the bias indicator, */
+#define PV_AT_1230_RESERVED 4  /* the three reserved bits. */
 
 #define PV_AT_1001_STATION 2     /* Message 1001 read: the reference station, */
 #define PV_AT_1001_EPOCH 3       /* the GPS epoch time in ms, */
@@ -428,6 +439,136 @@ uint32_t pv_1230_write(uint8_t *data, size_t data_len, size_t start, const uint8
 
 /* A raw 1230 bias in metres: the number as a float times 0.02f, rounded once. Its unit is not that of 1059. */
 float pv_1230_metres(int16_t raw);
+
+/* ---- Whole messages 1059 and 1230: number, header and bias block. ---- */
+
+/*
+ * Reads a whole message 1059 from bit 0 of the data on: the number 1059 (12 bits), epoch (20), update interval (4),
+ * multiple message flag (1), IOD (4), provider (16), solution (4); then the block, as pv_1059_read has it from bit
+ * PV_1059_BLOCK_START (61) on.
+ *
+ * Refuses, in this order: PV_SIZE (data above 1,023 bytes, or lists of unequal length); PV_SHORT of the number, PV_KIND
+ * (another number), PV_SHORT of a later field (carries the bit where it starts, and how many of its bits are missing);
+ * PV_ROOM (more records than places; carries how many there are).
+ * Answers: [PV_AT_READ_RECORDS] the number of records; [PV_AT_READ_END] the bit behind the message; [PV_AT_1059_EPOCH]
+ * and on: the header.
+ */
+uint32_t pv_1059_message_read(const uint8_t *data, size_t data_len, uint8_t *satellites, size_t satellites_len,
+                              uint8_t *signals, size_t signals_len, int16_t *biases, size_t biases_len,
+                              uint64_t *extra, size_t extra_len);
+
+/*
+ * Writes a whole message 1059 from bit 0 of the data on, its records as pv_1059_write does. Bits behind the message stay
+ * as they are.
+ *
+ * Refuses, in this order: PV_KIND (an edition other than 1 and 2); PV_SIZE (data above 1,023 bytes, lists of unequal
+ * length or above 1,953); PV_RANGE (a number of the header does not fit its field; carries 0); then what pv_1059_write
+ * refuses of its records; PV_ROOM (carries the bits of the whole message).
+ * Answers: [PV_AT_WRITTEN_END] the bit behind the message.
+ */
+uint32_t pv_1059_message_write(uint32_t edition, uint8_t *data, size_t data_len, uint32_t epoch, uint32_t interval,
+                               uint32_t multiple, uint32_t iod, uint32_t provider, uint32_t solution,
+                               const uint8_t *satellites, size_t satellites_len, const uint8_t *signals,
+                               size_t signals_len, const int16_t *biases, size_t biases_len,
+                               uint64_t *extra, size_t extra_len);
+
+/*
+ * Reads a whole message 1230 from bit 0 of the data on: the number 1230 (12 bits), reference station (12), bias indicator
+ * (1), reserved bits (3), which are kept as they are; then the block, as pv_1230_read has it from bit PV_1230_BLOCK_START
+ * (28) on.
+ *
+ * Refuses, in this order: PV_SIZE (data above 1,023 bytes, or lists of unequal length); PV_SHORT of the number, PV_KIND
+ * (another number), PV_SHORT of a later field (carries the bit where it starts, and how many of its bits are missing);
+ * PV_ROOM (more records than places; carries how many there are).
+ * Answers: [PV_AT_READ_RECORDS] the number of records; [PV_AT_READ_END] the bit behind the message; [PV_AT_1230_STATION]
+ * and on: the header.
+ */
+uint32_t pv_1230_message_read(const uint8_t *data, size_t data_len, uint8_t *signals, size_t signals_len,
+                              int16_t *biases, size_t biases_len, uint64_t *extra, size_t extra_len);
+
+/*
+ * Writes a whole message 1230 from bit 0 of the data on, its records as pv_1230_write does. Bits behind the message stay
+ * as they are.
+ *
+ * Refuses, in this order: PV_SIZE (data above 1,023 bytes, lists of unequal length or above 4); PV_RANGE (a number of the
+ * header does not fit its field; carries 0); then what pv_1230_write refuses of its records; PV_ROOM (carries the bits of
+ * the whole message).
+ * Answers: [PV_AT_WRITTEN_END] the bit behind the message.
+ */
+uint32_t pv_1230_message_write(uint8_t *data, size_t data_len, uint32_t station, uint32_t indicator, uint32_t reserved,
+                               const uint8_t *signals, size_t signals_len, const int16_t *biases, size_t biases_len,
+                               uint64_t *extra, size_t extra_len);
+
+/* What stands between the number and the block of message 1059. */
+struct pv_1059_header {
+    uint32_t epoch;    /* 20 bits: seconds of the GPS week. */
+    uint32_t interval; /* 4 bits: the update interval. */
+    uint32_t multiple; /* 1 bit: 1 if more messages of this epoch follow. */
+    uint32_t iod;      /* 4 bits: the issue of data. */
+    uint32_t provider; /* 16 bits. */
+    uint32_t solution; /* 4 bits. */
+};
+
+/* What stands between the number and the block of message 1230. */
+struct pv_1230_header {
+    uint32_t station;   /* 12 bits: the reference station. */
+    uint32_t indicator; /* 1 bit: the code-phase bias indicator. */
+    uint32_t reserved;  /* 3 bits, kept as read. */
+};
+
+/*
+ * The four calls with the header in a struct: the same answers and refusals, in the same order. A header that is read into
+ * changes only where 0 is returned.
+ */
+static inline uint32_t pv_1059_message_get(const uint8_t *data, size_t data_len, struct pv_1059_header *header,
+                                           uint8_t *satellites, size_t satellites_len, uint8_t *signals,
+                                           size_t signals_len, int16_t *biases, size_t biases_len,
+                                           uint64_t *extra, size_t extra_len)
+{
+    uint32_t refusal = pv_1059_message_read(data, data_len, satellites, satellites_len, signals, signals_len, biases,
+                                            biases_len, extra, extra_len);
+    if (refusal != PV_ACCEPTED)
+        return refusal;
+    header->epoch = (uint32_t)extra[PV_AT_1059_EPOCH];
+    header->interval = (uint32_t)extra[PV_AT_1059_INTERVAL];
+    header->multiple = (uint32_t)extra[PV_AT_1059_MULTIPLE];
+    header->iod = (uint32_t)extra[PV_AT_1059_IOD];
+    header->provider = (uint32_t)extra[PV_AT_1059_PROVIDER];
+    header->solution = (uint32_t)extra[PV_AT_1059_SOLUTION];
+    return PV_ACCEPTED;
+}
+
+static inline uint32_t pv_1059_message_put(uint32_t edition, uint8_t *data, size_t data_len,
+                                           const struct pv_1059_header *header, const uint8_t *satellites,
+                                           size_t satellites_len, const uint8_t *signals, size_t signals_len,
+                                           const int16_t *biases, size_t biases_len,
+                                           uint64_t *extra, size_t extra_len)
+{
+    return pv_1059_message_write(edition, data, data_len, header->epoch, header->interval, header->multiple, header->iod,
+                                 header->provider, header->solution, satellites, satellites_len, signals, signals_len,
+                                 biases, biases_len, extra, extra_len);
+}
+
+static inline uint32_t pv_1230_message_get(const uint8_t *data, size_t data_len, struct pv_1230_header *header,
+                                           uint8_t *signals, size_t signals_len, int16_t *biases, size_t biases_len,
+                                           uint64_t *extra, size_t extra_len)
+{
+    uint32_t refusal = pv_1230_message_read(data, data_len, signals, signals_len, biases, biases_len, extra, extra_len);
+    if (refusal != PV_ACCEPTED)
+        return refusal;
+    header->station = (uint32_t)extra[PV_AT_1230_STATION];
+    header->indicator = (uint32_t)extra[PV_AT_1230_INDICATOR];
+    header->reserved = (uint32_t)extra[PV_AT_1230_RESERVED];
+    return PV_ACCEPTED;
+}
+
+static inline uint32_t pv_1230_message_put(uint8_t *data, size_t data_len, const struct pv_1230_header *header,
+                                           const uint8_t *signals, size_t signals_len, const int16_t *biases,
+                                           size_t biases_len, uint64_t *extra, size_t extra_len)
+{
+    return pv_1230_message_write(data, data_len, header->station, header->indicator, header->reserved, signals,
+                                 signals_len, biases, biases_len, extra, extra_len);
+}
 
 /* ---- Message 1001 (GPS L1 observations). ---- */
 

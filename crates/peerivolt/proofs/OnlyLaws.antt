@@ -32,6 +32,10 @@ use Rattle.observations.specs.Read1001.{read1001}
 use Rattle.observations.specs.Write1001.{write1001}
 use Rattle.observations.specs.Measured.{pseudorangeOf, phaseOf, lockOf}
 use Rattle.peerivolt.specs.Message1001.{seenValues, measuredValues}
+use Rattle.whole.specs.declared.answer.Header1059.{Header1059}
+use Rattle.whole.specs.declared.answer.Header1230.{Header1230}
+use Rattle.whole.specs.Messages.{readMessage1059, writeMessage1059, readMessage1230, writeMessage1230}
+use Rattle.peerivolt.specs.Messages.{message1059Values, message1230Values}
 use Rattle.peerivolt.specs.Extra.{Returned, returned, answered, reads}
 use Rattle.peerivolt.specs.Fields.{readingValues, signedValues, endValues}
 use Rattle.peerivolt.specs.Frames.{wholeValues}
@@ -154,3 +158,16 @@ only-pv-1001-lock raw e = only-returned (reads measuredValues (Accepted (lockOf 
 
 pub only-pv-why : (s : List ℕ) (q : ℕ) (e : List ℕ) → OneAnswer (reads fateValues (fateOf s q) e)
 only-pv-why s q e = only-returned (reads fateValues (fateOf s q) e)
+
+pub only-pv-1059-message-read : (s sats gs : List ℕ) (zs : List ℤ) (e : List ℕ) → OneAnswer (answered message1059Values e (sats, gs, zs) (readMessage1059 s sats gs zs))
+only-pv-1059-message-read s sats gs zs e = only-returned (answered message1059Values e (sats, gs, zs) (readMessage1059 s sats gs zs))
+
+pub only-pv-1059-message-write : (edition : ℕ) (s : List ℕ) (h : Header1059) (sats gs : List ℕ) (zs : List ℤ) (e : List ℕ)
+    → OneAnswer (answered endValues e s (writeMessage1059 edition s h sats gs zs))
+only-pv-1059-message-write edition s h sats gs zs e = only-returned (answered endValues e s (writeMessage1059 edition s h sats gs zs))
+
+pub only-pv-1230-message-read : (s gs : List ℕ) (zs : List ℤ) (e : List ℕ) → OneAnswer (answered message1230Values e (gs, zs) (readMessage1230 s gs zs))
+only-pv-1230-message-read s gs zs e = only-returned (answered message1230Values e (gs, zs) (readMessage1230 s gs zs))
+
+pub only-pv-1230-message-write : (s : List ℕ) (h : Header1230) (gs : List ℕ) (zs : List ℤ) (e : List ℕ) → OneAnswer (answered endValues e s (writeMessage1230 s h gs zs))
+only-pv-1230-message-write s h gs zs e = only-returned (answered endValues e s (writeMessage1230 s h gs zs))

@@ -10,5 +10,6 @@ pub mod Feeding
 pub mod Signals
 pub mod Biases
 pub mod Message1001
+pub mod Messages
 pub mod Why
 pub mod Closing

@@ -131,7 +131,7 @@ fn block_read(answer: BlockRead) -> Reply
     }
 }
 
-fn block_written(answer: BlockWritten) -> Reply
+pub(crate) fn block_written(answer: BlockWritten) -> Reply
     ensures { λ r. ⌜ replied r ≡ inNumbers endValues (toldBlock answer) ⌝ }
 {
     match answer {

@@ -8,6 +8,8 @@ pub mod entries;
 mod extra;
 pub mod fields;
 pub mod message_1001;
+pub mod message_1059;
+pub mod message_1230;
 pub mod one_frame;
 pub mod scanner;
 pub mod signals;
