@@ -7,3 +7,4 @@ pub mod Isolation
 pub mod PlaceLaws
 pub mod CodeLaws
 pub mod ToldLaws
+pub mod KeepLaws

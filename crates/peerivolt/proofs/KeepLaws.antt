@@ -20,9 +20,22 @@ use Rattle.frames.proofs.CallLaws.{feed-keeps}
 use Rattle.messages.specs.Write1059.{write1059}
 use Rattle.messages.specs.Write1230.{write1230}
 use Rattle.messages.proofs.KeepLaws.{refused-write-1059, refused-write-1230}
+use Rattle.settings.specs.Read.{readSettings}
+use Rattle.settings.specs.Write.{writeSettings}
+use Rattle.settings.proofs.KeepLaws as settings
+use Rattle.cache.specs.Cache.{Call, step}
+use Rattle.cache.proofs.KeepLaws.{step-keeps}
+use Rattle.observations.specs.declared.answer.Header.{Header}
+use Rattle.observations.specs.Lists.{Lists}
+use Rattle.observations.specs.Read1001.{read1001}
+use Rattle.observations.specs.Write1001.{write1001}
+use Rattle.observations.proofs.ToldLaws as m1001
 use Rattle.peerivolt.specs.Extra.{inNumbers, Returned, returned, ifSized, answered}
 use Rattle.peerivolt.specs.Fields.{endValues}
 use Rattle.peerivolt.specs.Scanner.{scannerOf, fedValues, feeds}
+use Rattle.peerivolt.specs.Settings.{foundValues, readsSettings}
+use Rattle.peerivolt.specs.Cache.{valueValues}
+use Rattle.peerivolt.specs.Message1001.{seenValues}
 
 -- where d returns another number than 0, the areas are as they were before
 pub record RefusedKeeps {Areas : Type 0} (before : Areas) (d : Returned Areas) : Type 0 where
@@ -63,6 +76,25 @@ unfolding feeds
 keeps-pv-feed held count taken mode piece out e =
     let x = scannerOf count taken mode in
     sized-keeps (held, out) (eqb (length held) 1029) e _ (answered-keeps (held, out) fedValues e (feedOf (framingOf mode) held x piece out) (feed-keeps (framingOf mode) held x piece out))
+
+pub keeps-pv-settings-read : (s : List ℕ) (reader index : ℕ) (ns ps e : List ℕ) → RefusedKeeps (ns, ps) (readsSettings ns ps (readSettings s reader index ns ps) e)
+unfolding readsSettings
+keeps-pv-settings-read s reader index ns ps e =
+    sized-keeps (ns, ps) (eqb (length ns) 64) e _ (sized-keeps (ns, ps) (eqb (length ps) 64) e _
+    (answered-keeps (ns, ps) foundValues e (readSettings s reader index ns ps) (settings.read-keeps s reader index ns ps)))
+
+pub keeps-pv-settings-write : (edition index : ℕ) (ns ps out e : List ℕ) → RefusedKeeps out (answered endValues e out (writeSettings edition index ns ps out))
+keeps-pv-settings-write edition index ns ps out e = answered-keeps out endValues e (writeSettings edition index ns ps out) (settings.write-keeps edition index ns ps out)
+
+-- a store and a removal
+pub keeps-pv-cache : (c : Call) (l : List (List ℕ)) (e : List ℕ) → RefusedKeeps l (answered valueValues e l (step c l))
+keeps-pv-cache c l e = answered-keeps l valueValues e (step c l) (step-keeps c l)
+
+pub keeps-pv-1001-read : (s : List ℕ) (l : Lists) (e : List ℕ) → RefusedKeeps l (answered seenValues e l (read1001 s l))
+keeps-pv-1001-read s l e = answered-keeps l seenValues e (read1001 s l) (m1001.read-keeps s l)
+
+pub keeps-pv-1001-write : (s : List ℕ) (h : Header) (l : Lists) (e : List ℕ) → RefusedKeeps s (answered endValues e s (write1001 s h l))
+keeps-pv-1001-write s h l e = answered-keeps s endValues e (write1001 s h l) (m1001.write-keeps s h l)
 
 pub keeps-pv-1059-write : (edition : ℕ) (s : List ℕ) (p : ℕ) (sats gs : List ℕ) (zs : List ℤ) (e : List ℕ) → RefusedKeeps s (answered endValues e s (write1059 edition s p sats gs zs))
 keeps-pv-1059-write edition s p sats gs zs e = answered-keeps s endValues e (write1059 edition s p sats gs zs) (refused-write-1059 s p edition sats gs zs)

@@ -6,4 +6,5 @@ pub mod WriteLaws
 pub mod WrittenLaws
 pub mod RoundTrip
 pub mod ToldLaws
+pub mod KeepLaws
 pub mod Examples
