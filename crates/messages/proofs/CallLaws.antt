@@ -10,12 +10,12 @@ use Rattle.bits.specs.Told.{Told, Accepted, Refused, room, andThen}
 use Rattle.bits.specs.Field.{Reading, reading}
 use Rattle.messages.specs.Reader.{roomFor}
 use Rattle.messages.specs.Records.{Counted, counted}
-use Rattle.messages.specs.ReadSteps.{counts, found, Placed, Stored}
+use Rattle.messages.specs.StepsRead.{counts, recordsIn, Suffices, Stored}
 use Rattle.messages.proofs.ArmLaws.{IsRefused}
 use Rattle.messages.proofs.PassLaws.{counted-tells, refused-tells}
 
--- where the count is at most n, the records are placed in lists of n
-pub has-room : {A : Type 0} (n : ℕ) (t : Told (Reading (List A))) {j q : ℕ} → Accepted (counted j q) ≡ counts 0 t → j ≤ n → Placed 0 t n
+-- where the count is at most n, n places suffice for the records
+pub has-room : {A : Type 0} (n : ℕ) (t : Told (Reading (List A))) {j q : ℕ} → Accepted (counted j q) ≡ counts 0 t → j ≤ n → Suffices 0 t n
 has-room n t {j} {q} e h =
     let s = counted-tells 0 t e in
     record { all = reading (s .read) q; is = s .is; room = omega (arith, s .count) }
@@ -44,13 +44,13 @@ module _ {A S X : Type 0} (put : ℕ → List A → S → S) (outcome : Told Cou
         let f : andThen t (roomFor n) ≡ room j = rw (s .is, lt-ltb _ _ l) (ap (λ (k : ℕ). room k) d) in
         sym (c .is ∙ ap (c .left) f ∙ c .refused _ _)
 
-    pub reads : Placed 0 t n → {answer : Told Counted} {new : S} → Stored put 0 t answer old new → outcome answer new ≡ call
-    unfolding counts found
+    pub reads : Suffices 0 t n → {answer : Told Counted} {new : S} → Stored put 0 t answer old new → outcome answer new ≡ call
+    unfolding counts recordsIn
     reads h w =
         let r = h .all in
         let l : length (r .value) ≤ n = omega (arith, h .room) in
         let f : andThen t (roomFor n) ≡ Accepted r = rw (h .is, le-ltb _ _ l) in
         ap₂ outcome
         (w .says ∙ ap (counts 0) (h .is) ∙ ap (λ (k : ℕ). Accepted (counted k (r .next))) (zero-add (length (r .value))))
-        (w .lists ∙ ap (λ (u : Told (Reading (List A))). put 0 (found u) old) (h .is))
+        (w .lists ∙ ap (λ (u : Told (Reading (List A))). put 0 (recordsIn u) old) (h .is))
         ∙ sym (c .is ∙ ap (c .left) f ∙ c .accepted r l)

@@ -11,10 +11,10 @@ use lib.IntN.{ℤ}
 use lib.Dec.{eqb, ltb}
 use Rattle.bits.specs.Told.{Told, Accepted, Refused}
 use Rattle.bits.specs.Field.{Reading, reading}
-use Rattle.bits.specs.Onto.{onto}
+use Rattle.bits.specs.Outcome.{Outcome, refusing}
 use Rattle.messages.specs.Reader.{roomFor}
 use Rattle.messages.specs.Records.{Rec1059, satelliteOf, signalOf1059, biasOf1059, records1059, Counted, counted}
-use Rattle.messages.specs.Read1059.{block1059, Read1059, left1059, read1059}
+use Rattle.messages.specs.Read1059.{block1059, filled1059, read1059}
 use Rattle.messages.specs.Satellites1059.{Sat, satellites1059, recordsOf, Regular}
 use Rattle.messages.specs.Write1059.{write1059}
 use Rattle.messages.specs.InOrder.{inOrder1059}
@@ -31,7 +31,7 @@ use Rattle.messages.proofs.SameBits1059.{block-back-1059}
 
 pub reads-back-1059 : (e : ℕ) (s : List ℕ) (p : ℕ) (sats gs : List ℕ) (zs : List ℤ) {q : ℕ} → write1059 e s p sats gs zs .answer ≡ Accepted q
     → (a b : List ℕ) (c : List ℤ) → length a ≡ length b → length a ≡ length c → length sats ≤ length a
-    → read1059 (write1059 e s p sats gs zs .areas) p a b c ≡ left1059 a b c (Accepted (reading (inOrder1059 (records1059 sats gs zs)) q))
+    → read1059 (write1059 e s p sats gs zs .areas) p a b c ≡ filled1059 a b c (reading (inOrder1059 (records1059 sats gs zs)) q)
 unfolding read1059
 reads-back-1059 e s p sats gs zs h a b c i j room =
     let w = call-accepted e s p sats gs zs h in
@@ -50,9 +50,9 @@ module _ (s : List ℕ) (p : ℕ) (a b : List ℕ) (c : List ℤ) where
     pub records : List Rec1059
     pub is : block1059 s p ≡ Accepted (reading records q)
     pub count : length records ≡ n
-    pub lists : read1059 s p a b c ≡ left1059 a b c (Accepted (reading records q))
+    pub lists : read1059 s p a b c ≡ filled1059 a b c (reading records q)
 
-  left-accepted : {n q : ℕ} (t : Told (Reading (List Rec1059))) → left1059 a b c t .answer ≡ Accepted (counted n q)
+  left-accepted : {n q : ℕ} (t : Told (Reading (List Rec1059))) → refusing (a, b, c) t (filled1059 a b c) .answer ≡ Accepted (counted n q)
       → (r : Reading (List Rec1059)) × (t ≡ Accepted r) × (counted (length (r .value)) (r .next) ≡ counted n q)
   left-accepted (Accepted r) e = (r, refl, cc)
   left-accepted (Refused m carried) e = let z : _≡_ {A = ℕ} 0 1 = cc in absurd (omega arith)
@@ -73,21 +73,21 @@ module _ (s : List ℕ) (p : ℕ) (a b : List ℕ) (c : List ℤ) where
         records = l .0 .value;
         is = x .1 ∙ ap Accepted (sym same) ∙ is;
         count = ap (λ (k : Counted). k .count) (l .2);
-        lists = ap (left1059 a b c) (l .1 ∙ is);
+        lists = ap (λ (t : Told (Reading (List Rec1059))). refusing (a, b, c) t (filled1059 a b c)) (l .1 ∙ is);
       }
 
   pub written-back-1059 : (e : ℕ) {n q : ℕ} → read1059 s p a b c .answer ≡ Accepted (counted n q)
       → (xs : List Sat) → satellites1059 s p ≡ Accepted (reading xs q) → Regular e xs
       → (t : List ℕ) (r : ℕ) → length t ≤ 1023 → r + (q - p) ≤ length t * 8
       → WrittenBack s p q r
-      (write1059 e t r (take n (read1059 s p a b c .satellites)) (take n (read1059 s p a b c .signals)) (take n (read1059 s p a b c .biases)))
+      (write1059 e t r (take n (read1059 s p a b c .areas .0)) (take n (read1059 s p a b c .areas .1)) (take n (read1059 s p a b c .areas .2)))
   written-back-1059 e {n} {q} h xs by-satellite regular t r few room =
       let d = call-reads h in
       let rs = d .records in
       let i : Accepted (reading rs q) ≡ Accepted (reading (recordsOf xs) q) = sym (d .is) ∙ block-by-satellite s p ∙ rw by-satellite in
       let j : reading rs q ≡ reading (recordsOf xs) q = cc i in
       let same : rs ≡ recordsOf xs = ap (λ (x : Reading (List Rec1059)). x .value) j in
-      let sats : take n (read1059 s p a b c .satellites) ≡ map satelliteOf rs = ap (λ (x : Read1059). take n (x .satellites)) (d .lists) ∙ take-at (map satelliteOf rs) _ n (length-map rs satelliteOf ∙ d .count) in
-      let gs : take n (read1059 s p a b c .signals) ≡ map signalOf1059 rs = ap (λ (x : Read1059). take n (x .signals)) (d .lists) ∙ take-at (map signalOf1059 rs) _ n (length-map rs signalOf1059 ∙ d .count) in
-      let zs : take n (read1059 s p a b c .biases) ≡ map biasOf1059 rs = ap (λ (x : Read1059). take n (x .biases)) (d .lists) ∙ take-at (map biasOf1059 rs) _ n (length-map rs biasOf1059 ∙ d .count) in
+      let sats : take n (read1059 s p a b c .areas .0) ≡ map satelliteOf rs = ap (λ (x : Outcome Counted (List ℕ × List ℕ × List ℤ)). take n (x .areas .0)) (d .lists) ∙ take-at (map satelliteOf rs) _ n (length-map rs satelliteOf ∙ d .count) in
+      let gs : take n (read1059 s p a b c .areas .1) ≡ map signalOf1059 rs = ap (λ (x : Outcome Counted (List ℕ × List ℕ × List ℤ)). take n (x .areas .1)) (d .lists) ∙ take-at (map signalOf1059 rs) _ n (length-map rs signalOf1059 ∙ d .count) in
+      let zs : take n (read1059 s p a b c .areas .2) ≡ map biasOf1059 rs = ap (λ (x : Outcome Counted (List ℕ × List ℕ × List ℤ)). take n (x .areas .2)) (d .lists) ∙ take-at (map biasOf1059 rs) _ n (length-map rs biasOf1059 ∙ d .count) in
       rw (sats, gs, zs, same) (block-back-1059 e s p xs by-satellite regular t r few room)

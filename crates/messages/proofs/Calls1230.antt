@@ -11,11 +11,12 @@ use lib.IntN.{ℤ}
 use lib.Dec.{eqb, ltb}
 use Rattle.bits.specs.Told.{Told, Accepted, Refused}
 use Rattle.bits.specs.Field.{Reading, reading}
+use Rattle.bits.specs.Outcome.{Outcome, refusing}
 use Rattle.bits.specs.Fields.{total}
 use Rattle.messages.specs.Reader.{roomFor}
 use Rattle.messages.specs.Records.{Rec1230, signalOf1230, biasOf1230, records1230, Counted, counted}
 use Rattle.messages.specs.I16.{OfI16}
-use Rattle.messages.specs.Read1230.{block1230, Read1230, left1230, read1230}
+use Rattle.messages.specs.Read1230.{block1230, filled1230, read1230}
 use Rattle.messages.specs.Write1230.{fields1230, write1230}
 use Rattle.messages.specs.InOrder.{inOrder1230}
 use Rattle.messages.specs.WrittenBack.{WrittenBack}
@@ -31,7 +32,7 @@ use Rattle.messages.proofs.SameBits1230.{block-back-1230}
 
 pub reads-back-1230 : (s : List ℕ) (p : ℕ) (gs : List ℕ) (zs : List ℤ) {q : ℕ} → OfI16 zs → write1230 s p gs zs .answer ≡ Accepted q
     → (b : List ℕ) (c : List ℤ) → length b ≡ length c → length gs ≤ length b
-    → read1230 (write1230 s p gs zs .areas) p b c ≡ left1230 b c (Accepted (reading (inOrder1230 (records1230 gs zs)) q))
+    → read1230 (write1230 s p gs zs .areas) p b c ≡ filled1230 b c (reading (inOrder1230 (records1230 gs zs)) q)
 unfolding read1230
 reads-back-1230 s p gs zs {q} raw h b c i room =
     let w = call-accepted s p gs zs h in
@@ -51,9 +52,9 @@ module _ (s : List ℕ) (p : ℕ) (b : List ℕ) (c : List ℤ) where
     pub records : List Rec1230
     pub is : block1230 s p ≡ Accepted (reading records q)
     pub count : length records ≡ n
-    pub lists : read1230 s p b c ≡ left1230 b c (Accepted (reading records q))
+    pub lists : read1230 s p b c ≡ filled1230 b c (reading records q)
 
-  left-accepted : {n q : ℕ} (t : Told (Reading (List Rec1230))) → left1230 b c t .answer ≡ Accepted (counted n q)
+  left-accepted : {n q : ℕ} (t : Told (Reading (List Rec1230))) → refusing (b, c) t (filled1230 b c) .answer ≡ Accepted (counted n q)
       → (r : Reading (List Rec1230)) × (t ≡ Accepted r) × (counted (length (r .value)) (r .next) ≡ counted n q)
   left-accepted (Accepted r) e = (r, refl, cc)
   left-accepted (Refused m carried) e = let z : _≡_ {A = ℕ} 0 1 = cc in absurd (omega arith)
@@ -73,14 +74,14 @@ module _ (s : List ℕ) (p : ℕ) (b : List ℕ) (c : List ℤ) where
         records = l .0 .value;
         is = x .1 ∙ ap Accepted (sym same) ∙ is;
         count = ap (λ (k : Counted). k .count) (l .2);
-        lists = ap (left1230 b c) (l .1 ∙ is);
+        lists = ap (λ (t : Told (Reading (List Rec1230))). refusing (b, c) t (filled1230 b c)) (l .1 ∙ is);
       }
 
   pub written-back-1230 : {n q : ℕ} → read1230 s p b c .answer ≡ Accepted (counted n q) → (t : List ℕ) (r : ℕ) → length t ≤ 1023 → r + (q - p) ≤ length t * 8
-      → WrittenBack s p q r (write1230 t r (take n (read1230 s p b c .signals)) (take n (read1230 s p b c .biases)))
+      → WrittenBack s p q r (write1230 t r (take n (read1230 s p b c .areas .0)) (take n (read1230 s p b c .areas .1)))
   written-back-1230 {n} {q} h t r few room =
       let d = call-reads h in
       let rs = d .records in
-      let gs : take n (read1230 s p b c .signals) ≡ map signalOf1230 rs = ap (λ (x : Read1230). take n (x .signals)) (d .lists) ∙ take-at (map signalOf1230 rs) _ n (length-map rs signalOf1230 ∙ d .count) in
-      let zs : take n (read1230 s p b c .biases) ≡ map biasOf1230 rs = ap (λ (x : Read1230). take n (x .biases)) (d .lists) ∙ take-at (map biasOf1230 rs) _ n (length-map rs biasOf1230 ∙ d .count) in
+      let gs : take n (read1230 s p b c .areas .0) ≡ map signalOf1230 rs = ap (λ (x : Outcome Counted (List ℕ × List ℤ)). take n (x .areas .0)) (d .lists) ∙ take-at (map signalOf1230 rs) _ n (length-map rs signalOf1230 ∙ d .count) in
+      let zs : take n (read1230 s p b c .areas .1) ≡ map biasOf1230 rs = ap (λ (x : Outcome Counted (List ℕ × List ℤ)). take n (x .areas .1)) (d .lists) ∙ take-at (map biasOf1230 rs) _ n (length-map rs biasOf1230 ∙ d .count) in
       rw (gs, zs) (block-back-1230 s p rs (d .is) t r few room)

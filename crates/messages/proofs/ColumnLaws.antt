@@ -11,7 +11,7 @@ use lib.Seq.{drop-cons, drop-length}
 use Rattle.bits.specs.Told.{Accepted, kind}
 use Rattle.messages.specs.Signals.{sig, Entry, entry, At, None, signalOf, numberOf, tables, tableOf}
 use Rattle.messages.specs.Signals1059.{isEdition, signals1059, namedSignal1059, namedNumber1059}
-use Rattle.messages.specs.Columns.{has, lineOf, signalAt, numberAt, Even, entries}
+use Rattle.messages.specs.StepsColumns.{has, lineOf, signalAt, numberAt, Even, entries}
 use Rattle.messages.specs.declared.signals.Wanted.{Wanted}
 use Rattle.messages.specs.declared.signals.Wanted.the-variants.{Number, Signal}
 

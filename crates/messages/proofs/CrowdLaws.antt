@@ -15,7 +15,7 @@ use Rattle.bits.proofs.FieldsLaws.{total-append, total-none, total-next}
 use Rattle.messages.specs.Writer.{fine}
 use Rattle.messages.specs.Records.{Rec1059}
 use Rattle.messages.specs.Write1059.{ofSatellite, crowded, present, satelliteFields, satellitesFrom, fields1059}
-use Rattle.messages.specs.WriteSteps1059.{sumOf, crowdedIn, presentIn}
+use Rattle.messages.specs.StepsWrite1059.{sumOf, crowdedIn, presentIn}
 use Rattle.messages.proofs.Fields1059Laws.{total-satellite}
 
 -- ---- the counts from satellite a on, as the code goes through them

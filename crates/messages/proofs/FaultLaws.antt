@@ -13,11 +13,11 @@ use Rattle.bits.specs.Told.{Told, andThen, satellite, signal, range}
 use Rattle.bits.specs.Signed.{fitsTwos}
 use Rattle.messages.specs.Every.{Every}
 use Rattle.messages.specs.Signals1059.{signals1059}
-use Rattle.messages.specs.Columns.{maskOf, inMask}
+use Rattle.messages.specs.StepsColumns.{maskOf, inMask}
 use Rattle.messages.specs.Records.{Rec1059, rec1059, records1059}
 use Rattle.messages.specs.Writer.{fine, firstFault}
 use Rattle.messages.specs.Write1059.{fault1059}
-use Rattle.messages.specs.WriteSteps1059.{faultBy, Sound}
+use Rattle.messages.specs.StepsWrite1059.{faultBy, Faultless}
 use Rattle.messages.proofs.Signals1059Laws.{mask-tells, signal-fits}
 use Rattle.messages.proofs.Accepts1059.{Writable, fine-clean}
 use Rattle.messages.proofs.RecordLaws.{from1059, next1059, end1059}
@@ -39,9 +39,9 @@ first-by-mask : (edition i : ℕ) (rs : List Rec1059)
 first-by-mask edition i rs = first-fault-as (faultBy (maskOf (signals1059 edition))) (fault1059 edition) (fault-by-mask edition) i rs
 
 -- what the code finds by the mask
-pub found : (edition mask : ℕ) (rs : List Rec1059) (t : Told Unit) → mask ≡ maskOf (signals1059 edition) → t ≡ firstFault (faultBy mask) 0 rs
+pub first-fault-is : (edition mask : ℕ) (rs : List Rec1059) (t : Told Unit) → mask ≡ maskOf (signals1059 edition) → t ≡ firstFault (faultBy mask) 0 rs
     → firstFault (fault1059 edition) 0 rs ≡ t
-found edition mask rs t e f = sym (f ∙ ap (λ (m : ℕ). firstFault (faultBy m) 0 rs) e ∙ first-by-mask edition 0 rs)
+first-fault-is edition mask rs t e f = sym (f ∙ ap (λ (m : ℕ). firstFault (faultBy m) 0 rs) e ∙ first-by-mask edition 0 rs)
 
 -- ---- record i, as the code tests it
 
@@ -82,7 +82,7 @@ writable-at edition (a ∷ sats) (g ∷ gs) (z ∷ zs) lg lz w zero h = w .0
 writable-at edition (a ∷ sats) (g ∷ gs) (z ∷ zs) lg lz w (suc i) h = writable-at edition sats gs zs (omega arith) (omega arith) (w .1) i (omega arith)
 
 pub sound : (edition : ℕ) (sats gs : List ℕ) (zs : List ℤ) → length sats ≡ length gs → length sats ≡ length zs → length sats ≤ 1953
-    → firstFault (fault1059 edition) 0 (records1059 sats gs zs) ≡ fine → Sound sats gs zs
+    → firstFault (fault1059 edition) 0 (records1059 sats gs zs) ≡ fine → Faultless sats gs zs
 sound edition sats gs zs lg lz few e =
     let w = writable-at edition sats gs zs lg lz (fine-clean edition 0 (records1059 sats gs zs) e) in
     record {

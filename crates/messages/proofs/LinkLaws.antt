@@ -12,7 +12,7 @@ use lib.Seq.{drop-cons, getD-set-same, getD-set-other}
 use lib.IntN.{ℤ, pos}
 use Rattle.bits.specs.Signed.{twosBits}
 use Rattle.bits.specs.Fields.{bits}
-use Rattle.messages.specs.WriteSteps1059.{placeOf, nextOf, countOf, sumOf, Links, Linked}
+use Rattle.messages.specs.StepsWrite1059.{placeOf, nextOf, countOf, sumOf, Links, Linked}
 use Rattle.messages.specs.Records.{Rec1059, rec1059, records1059}
 use Rattle.messages.specs.Writer.{keep}
 use Rattle.messages.specs.Write1059.{ofSatellite, biasFields, satelliteFields}

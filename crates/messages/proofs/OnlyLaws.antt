@@ -8,9 +8,9 @@ use Rattle.bits.specs.Outcome.{outcome}
 use Rattle.messages.specs.Signals.{sig, signalOf, numberOf, tableOf}
 use Rattle.messages.specs.SignalOrder.{order}
 use Rattle.messages.specs.Signals1059.{namedSignal1059, namedNumber1059}
-use Rattle.messages.specs.Metres.{metres1059, metres1230}
-use Rattle.messages.specs.Read1059.{outcome1059, read1059}
-use Rattle.messages.specs.Read1230.{outcome1230, read1230}
+use Rattle.messages.specs.Metres.{metres1059, metres1230, hundredths1059, hundredths1230}
+use Rattle.messages.specs.Read1059.{read1059}
+use Rattle.messages.specs.Read1230.{read1230}
 use Rattle.messages.specs.Write1059.{write1059}
 use Rattle.messages.specs.Write1230.{write1230}
 use Rattle.messages.specs.Answers.{foundSignal, foundNumber, toldSignal, toldNumber, toldOrder, toldRead, toldBlock}
@@ -22,7 +22,7 @@ use Rattle.messages.specs.declared.signals.Order.{Order}
 use Rattle.messages.specs.declared.answer.BlockRead.{BlockRead}
 use Rattle.messages.specs.declared.answer.BlockWritten.{BlockWritten}
 use Rattle.bits.proofs.ToldLaws.{only}
-use Rattle.messages.proofs.ToldLaws.{signal-one-to-one, number-one-to-one, same-signal-found, same-number-found, same-order, only-read1059, only-read1230, only-block}
+use Rattle.messages.proofs.ToldLaws.{signal-one-to-one, number-one-to-one, same-signal-found, same-number-found, same-order, only-read, only-block}
 
 -- ---- signals
 
@@ -52,17 +52,21 @@ only-metres-1059 raw p q = p ∙ sym q
 pub only-metres-1230 : (raw : ℤ) {x y : Float} → x ≡ metres1230 raw → y ≡ metres1230 raw → x ≡ y
 only-metres-1230 raw p q = p ∙ sym q
 
+pub only-hundredths-1059 : (raw : ℤ) {x y : ℤ} → x ≡ hundredths1059 raw → y ≡ hundredths1059 raw → x ≡ y
+only-hundredths-1059 raw p q = p ∙ sym q
+
+pub only-hundredths-1230 : (raw : ℤ) {x y : ℤ} → x ≡ hundredths1230 raw → y ≡ hundredths1230 raw → x ≡ y
+only-hundredths-1230 raw p q = p ∙ sym q
+
 -- ---- bias blocks
 
-pub only-read-1059 : (s : List ℕ) (p : ℕ) (a b : List ℕ) (c : List ℤ) {x y : BlockRead} {sats gs sats′ gs′ : List ℕ} {zs zs′ : List ℤ}
-    → outcome1059 (toldRead x) sats gs zs ≡ read1059 s p a b c → outcome1059 (toldRead y) sats′ gs′ zs′ ≡ read1059 s p a b c
-    → (x ≡ y) × (sats ≡ sats′) × (gs ≡ gs′) × (zs ≡ zs′)
-only-read-1059 s p a b c = only-read1059 (read1059 s p a b c)
+pub only-read-1059 : (s : List ℕ) (p : ℕ) (a b : List ℕ) (c : List ℤ) {x y : BlockRead} {l m : List ℕ × List ℕ × List ℤ}
+    → outcome (toldRead x) l ≡ read1059 s p a b c → outcome (toldRead y) m ≡ read1059 s p a b c → (x ≡ y) × (l ≡ m)
+only-read-1059 s p a b c = only-read (read1059 s p a b c)
 
-pub only-read-1230 : (s : List ℕ) (p : ℕ) (b : List ℕ) (c : List ℤ) {x y : BlockRead} {gs gs′ : List ℕ} {zs zs′ : List ℤ}
-    → outcome1230 (toldRead x) gs zs ≡ read1230 s p b c → outcome1230 (toldRead y) gs′ zs′ ≡ read1230 s p b c
-    → (x ≡ y) × (gs ≡ gs′) × (zs ≡ zs′)
-only-read-1230 s p b c = only-read1230 (read1230 s p b c)
+pub only-read-1230 : (s : List ℕ) (p : ℕ) (b : List ℕ) (c : List ℤ) {x y : BlockRead} {l m : List ℕ × List ℤ}
+    → outcome (toldRead x) l ≡ read1230 s p b c → outcome (toldRead y) m ≡ read1230 s p b c → (x ≡ y) × (l ≡ m)
+only-read-1230 s p b c = only-read (read1230 s p b c)
 
 pub only-write-1059 : (e : ℕ) (s : List ℕ) (p : ℕ) (sats gs : List ℕ) (zs : List ℤ) {x y : BlockWritten} {t u : List ℕ}
     → outcome (toldBlock x) t ≡ write1059 e s p sats gs zs → outcome (toldBlock y) u ≡ write1059 e s p sats gs zs → (x ≡ y) × (t ≡ u)

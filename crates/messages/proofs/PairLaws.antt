@@ -15,7 +15,7 @@ use lib.Seq.{getD-set-same, getD-set-other}
 use lib.IntN.{ℤ, pos}
 use Rattle.bits.specs.Told.{Told, duplicate}
 use Rattle.messages.specs.Records.{Rec1059, rec1059, records1059}
-use Rattle.messages.specs.Columns.{inMask}
+use Rattle.messages.specs.StepsColumns.{inMask}
 use Rattle.messages.specs.Writer.{fine, isAmong, firstRepeat}
 use Rattle.messages.specs.Write1059.{samePair}
 use Rattle.messages.proofs.TestLaws.{below, below-place}

@@ -9,7 +9,7 @@ use Rattle.bits.specs.Told.{Told, Accepted, Refused, andThen}
 use Rattle.bits.specs.Field.{Reading, reading}
 use Rattle.messages.specs.Reader.{before, many}
 use Rattle.messages.specs.Records.{Counted, counted}
-use Rattle.messages.specs.ReadSteps.{counts, found, Placed, Stored}
+use Rattle.messages.specs.StepsRead.{counts, recordsIn, Suffices, Stored}
 
 -- what t reads, and behind it what is read from there on
 abbrev pub chain : {A : Type 0} → Told (Reading (List A)) → (ℕ → Told (Reading (List A))) → Told (Reading (List A))
@@ -96,13 +96,13 @@ module _ {A : Type 0} (i : ℕ) where
     unfolding counts
     counts-stop e = ap (λ (u : Told (Reading (List A))). counts i (chain u rest)) (refused-tells t e)
 
-    pub placed-first : {n : ℕ} → Placed i (chain t rest) n → Placed i t n
-    placed-first h =
+    pub suffices-first : {n : ℕ} → Suffices i (chain t rest) n → Suffices i t n
+    suffices-first h =
         let b = both-read t rest (h .is) in
         record { all = b .first; is = b .first-is; room = omega (arith, h .room, ap length (b .value) ∙ length-append (b .first .value) (b .second .value)) }
 
-    pub placed-on : {n j q : ℕ} → Placed i (chain t rest) n → Accepted (counted j q) ≡ counts i t → Placed j (rest q) n
-    placed-on {n} {j} {q} h e =
+    pub suffices-on : {n j q : ℕ} → Suffices i (chain t rest) n → Accepted (counted j q) ≡ counts i t → Suffices j (rest q) n
+    suffices-on {n} {j} {q} h e =
         let b = both-read t rest (h .is) in
         let s = counted-tells t e in
         let f : b .first ≡ reading (s .read) q = cc in
@@ -113,8 +113,8 @@ module _ {A : Type 0} (i : ℕ) where
           room = omega (arith, h .room, s .count, v, ap length (b .value) ∙ length-append (b .first .value) (b .second .value));
         }
 
-    -- a step that is placed is not refused
-    pub not-stopped : {n m : ℕ} {carried : List ℕ} → Placed i (chain t rest) n → Refused m carried ≡ counts i t → ⊥
+    -- a step whose records have places is not refused
+    pub not-stopped : {n m : ℕ} {carried : List ℕ} → Suffices i (chain t rest) n → Refused m carried ≡ counts i t → ⊥
     not-stopped h e =
         let b = both-read t rest (h .is) in
         let r = refused-tells t e in
@@ -123,18 +123,18 @@ module _ {A : Type 0} (i : ℕ) where
 
     -- storing what both read is storing what the step reads, and then the rest
     module _ {S : Type 0} (put : ℕ → List A → S → S) (put-on : (i : ℕ) (xs ys : List A) (l : S) → put i (xs ++ ys) l ≡ put (i + length xs) ys (put i xs l)) where
-      pub stored-on : {n j q : ℕ} {old new : S} → Placed i (chain t rest) n → Stored put i t (Accepted (counted j q)) old new
-          → put i (found (chain t rest)) old ≡ put j (found (rest q)) new
-      unfolding found
+      pub stored-on : {n j q : ℕ} {old new : S} → Suffices i (chain t rest) n → Stored put i t (Accepted (counted j q)) old new
+          → put i (recordsIn (chain t rest)) old ≡ put j (recordsIn (rest q)) new
+      unfolding recordsIn
       stored-on {n} {j} {q} {old} {new} h w =
           let b = both-read t rest (h .is) in
           let s = counted-tells t (w .says) in
           let f : b .first ≡ reading (s .read) q = cc in
-          let x : found t ≡ s .read = ap found (s .is) in
-          let y : found (chain t rest) ≡ s .read ++ b .second .value =
-          ap found (h .is) ∙ b .value ∙ ap (λ (r : Reading (List A)). r .value ++ b .second .value) f in
-          let z : found (rest q) ≡ b .second .value =
-          ap found (ap rest (ap (λ (r : Reading (List A)). r .next) (sym f)) ∙ b .second-is) in
+          let x : recordsIn t ≡ s .read = ap recordsIn (s .is) in
+          let y : recordsIn (chain t rest) ≡ s .read ++ b .second .value =
+          ap recordsIn (h .is) ∙ b .value ∙ ap (λ (r : Reading (List A)). r .value ++ b .second .value) f in
+          let z : recordsIn (rest q) ≡ b .second .value =
+          ap recordsIn (ap rest (ap (λ (r : Reading (List A)). r .next) (sym f)) ∙ b .second-is) in
           ap (λ (l : List A). put i l old) y
           ∙ put-on i (s .read) (b .second .value) old
           ∙ ap₂ (λ (k : ℕ) (l : S). put k (b .second .value) l) (sym (s .count)) (ap (λ (l : List A). put i l old) (sym x) ∙ sym (w .lists))
@@ -143,23 +143,23 @@ module _ {A : Type 0} (i : ℕ) where
 -- ---- one record, and none
 
 module _ {A : Type 0} {i : ℕ} {t : Told (Reading (List A))} where
-  pub placed-one : {n q : ℕ} {x : A} → Placed i t n → t ≡ Accepted (reading (x ∷ []) q) → i < n
-  placed-one {n} {q} {x} h e =
+  pub suffices-one : {n q : ℕ} {x : A} → Suffices i t n → t ≡ Accepted (reading (x ∷ []) q) → i < n
+  suffices-one {n} {q} {x} h e =
       let d : h .all ≡ reading (x ∷ []) q = cc in
       omega (arith, h .room, ap (λ (r : Reading (List A)). length (r .value)) d)
 
-  pub placed-as : {u : Told (Reading (List A))} {n : ℕ} → t ≡ u → Placed i t n → Placed i u n
-  placed-as e h = rw e at h
+  pub suffices-as : {u : Told (Reading (List A))} {n : ℕ} → t ≡ u → Suffices i t n → Suffices i u n
+  suffices-as e h = rw e at h
 
   module _ {S : Type 0} (put : ℕ → List A → S → S) where
     pub stored-one : {q : ℕ} {x : A} {old new : S} → t ≡ Accepted (reading (x ∷ []) q) → new ≡ put i (x ∷ []) old → Stored put i t (Accepted (counted (i + 1) q)) old new
-    unfolding counts found
-    stored-one {old = old} e d = record { says = rw e; lists = d ∙ ap (λ (u : Told (Reading (List A))). put i (found u) old) (sym e) }
+    unfolding counts recordsIn
+    stored-one {old = old} e d = record { says = rw e; lists = d ∙ ap (λ (u : Told (Reading (List A))). put i (recordsIn u) old) (sym e) }
 
     pub stored-short : {answer : Told Counted} {carried : List ℕ} {old : S} → t ≡ Refused 1 carried → answer ≡ Refused 1 carried → put i [] old ≡ old → Stored put i t answer old old
-    unfolding found
+    unfolding recordsIn
     stored-short {old = old} e a d =
-        record { says = counts-short i e a; lists = sym d ∙ ap (λ (u : Told (Reading (List A))). put i (found u) old) (sym e) }
+        record { says = counts-short i e a; lists = sym d ∙ ap (λ (u : Told (Reading (List A))). put i (recordsIn u) old) (sym e) }
 
     -- a pass that is stored, said otherwise
     pub stored-as : {u : Told (Reading (List A))} {answer : Told Counted} {old new : S} → u ≡ t → Stored put i t answer old new → Stored put i u answer old new

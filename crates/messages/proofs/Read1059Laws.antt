@@ -11,12 +11,13 @@ use lib.ListN.{length, set}
 use lib.Dec.{ltb}
 use Rattle.bits.specs.Told.{Told, Accepted, size, Refused, andThen}
 use Rattle.bits.specs.Field.{Reading, reading, missing, cutAt, readUnsigned, field, readTwos}
+use Rattle.bits.specs.Outcome.{Outcome, outcome, refusing}
 use Rattle.bits.specs.Signed.{twosOf}
 use Rattle.bits.proofs.ReadLaws.{reads-value, reads-short}
 use Rattle.messages.specs.Reader.{many}
 use Rattle.messages.specs.Records.{Rec1059, Counted, counted, rec1059}
-use Rattle.messages.specs.Read1059.{satelliteAt, block1059, Read1059, outcome1059, left1059, read1059, biasAt}
-use Rattle.messages.specs.ReadSteps.{Lists1059, lists1059, put1059, counts, Stored}
+use Rattle.messages.specs.Read1059.{satelliteAt, block1059, filled1059, read1059, biasAt}
+use Rattle.messages.specs.StepsRead.{Lists1059, lists1059, put1059, counts, Stored}
 use Rattle.messages.proofs.CallLaws.{Call}
 use Rattle.messages.proofs.StoreLaws.{put1059-front}
 use Rattle.messages.proofs.PassLaws.{counts-short, counted-tells, stored-one}
@@ -169,20 +170,20 @@ block-read s p e = rw e
 
 -- ---- the call
 
-abbrev pub outcomeOf : Told Counted → Lists1059 → Read1059
-outcomeOf a l = outcome1059 a (l .satellites) (l .signals) (l .biases)
+abbrev pub outcomeOf : Told Counted → Lists1059 → Outcome Counted (List ℕ × List ℕ × List ℤ)
+outcomeOf a l = outcome a (l .satellites, l .signals, l .biases)
 
 module _ (s : List ℕ) (p : ℕ) (sats gs : List ℕ) (zs : List ℤ) where
-  pub too-long : 1023 < length s → outcome1059 size sats gs zs ≡ read1059 s p sats gs zs
+  pub too-long : 1023 < length s → outcome size (sats, gs, zs) ≡ read1059 s p sats gs zs
   unfolding read1059
   too-long h = rw (lt-ltb _ _ h)
 
   module _ (few : length s ≤ 1023) where
-    pub uneven : (length sats ≡ length gs → ⊥) → outcome1059 size sats gs zs ≡ read1059 s p sats gs zs
+    pub uneven : (length sats ≡ length gs → ⊥) → outcome size (sats, gs, zs) ≡ read1059 s p sats gs zs
     unfolding read1059
     uneven d = rw (le-ltb _ _ few, ne-eqb _ _ d)
 
-    pub uneven-2 : length sats ≡ length gs → (length sats ≡ length zs → ⊥) → outcome1059 size sats gs zs ≡ read1059 s p sats gs zs
+    pub uneven-2 : length sats ≡ length gs → (length sats ≡ length zs → ⊥) → outcome size (sats, gs, zs) ≡ read1059 s p sats gs zs
     unfolding read1059
     uneven-2 e d = rw (le-ltb _ _ few, eq-eqb _ _ e, ne-eqb _ _ d)
 
@@ -191,7 +192,7 @@ module _ (s : List ℕ) (p : ℕ) (sats gs : List ℕ) (zs : List ℤ) where
     unfolding read1059
     call1059 d e b =
         record {
-          left = left1059 sats gs zs;
+          left = λ t. refusing (sats, gs, zs) t (filled1059 sats gs zs);
           is = rw (le-ltb _ _ few, eq-eqb _ _ d, eq-eqb _ _ e, b);
           refused = λ m carried. refl;
           accepted = λ r l. ap (outcomeOf (Accepted (counted (length (r .value)) (r .next)))) (sym (put1059-front (r .value) sats gs zs l (sym d) (sym e)));

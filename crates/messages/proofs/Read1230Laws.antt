@@ -11,15 +11,16 @@ use lib.ListN.{length, set, drop, getD}
 use lib.Dec.{eqb}
 use Rattle.bits.specs.Told.{Told, Accepted, size, Refused, andThen}
 use Rattle.bits.specs.Field.{missing, cutAt, Reading, reading, readUnsigned, field, readTwos}
+use Rattle.bits.specs.Outcome.{Outcome, outcome, refusing}
 use Rattle.bits.specs.Signed.{twosOf}
 use Rattle.bits.proofs.ReadLaws.{reads-value, reads-short}
 use Rattle.messages.specs.Records.{Rec1230, Counted, counted, rec1230}
-use Rattle.messages.specs.Read1230.{maskSignals, masked, biasesAt, block1230, Read1230, outcome1230, left1230, read1230}
-use Rattle.messages.specs.ReadSteps.{Lists1230, lists1230, put1230, counts, Placed, Stored}
+use Rattle.messages.specs.Read1230.{maskSignals, masked, biasesAt, block1230, filled1230, read1230}
+use Rattle.messages.specs.StepsRead.{Lists1230, lists1230, put1230, counts, Suffices, Stored}
 use Rattle.messages.specs.Reader.{before}
 use Rattle.messages.specs.Writer.{keep}
 use Rattle.messages.proofs.CallLaws.{Call}
-use Rattle.messages.proofs.StoreLaws.{put1230-front, put1230-on, Doing, left-as, step-placed, step-read, step-stored}
+use Rattle.messages.proofs.StoreLaws.{put1230-front, put1230-on, Doing, left-as, step-suffices, step-read, step-stored}
 use Rattle.messages.proofs.ArmLaws.{IsRefused}
 use Rattle.messages.proofs.PassLaws.{chain, counts-short, stored-one}
 use Rattle.messages.proofs.RunLaws.{Single, Run, none, more, run-fits, run-cut, run-tells}
@@ -153,8 +154,8 @@ module _ (s l : List ℕ) (k m p : ℕ) (is : l ≡ maskSignals) (h : k < 4) (bi
 
   module _ {first n : ℕ} {whole : Told (Reading (List Rec1230))} {old : Lists1230} (i : ℕ) {now : Lists1230}
       (d : Doing put1230 first n whole old i (biasesAt s (masked (drop k maskSignals) m) p) now) where
-    pub signal-placed : Placed i (biasesAt s (getD l k 0 ∷ []) p) n
-    signal-placed = step-placed put1230 i (biasesAt s (getD l k 0 ∷ []) p) later (left-as put1230 d signal-left)
+    pub signal-suffices : Suffices i (biasesAt s (getD l k 0 ∷ []) p) n
+    signal-suffices = step-suffices put1230 i (biasesAt s (getD l k 0 ∷ []) p) later (left-as put1230 d signal-left)
 
     pub signal-read : {answer : Told Counted} → IsRefused answer → answer ≡ counts i (biasesAt s (getD l k 0 ∷ []) p) → ⊥
     signal-read r e = step-read put1230 i (biasesAt s (getD l k 0 ∷ []) p) later (left-as put1230 d signal-left) r e
@@ -176,16 +177,16 @@ block-read s p e = rw e
 
 -- ---- the call
 
-abbrev pub outcomeOf : Told Counted → Lists1230 → Read1230
-outcomeOf a l = outcome1230 a (l .signals) (l .biases)
+abbrev pub outcomeOf : Told Counted → Lists1230 → Outcome Counted (List ℕ × List ℤ)
+outcomeOf a l = outcome a (l .signals, l .biases)
 
 module _ (s : List ℕ) (p : ℕ) (gs : List ℕ) (zs : List ℤ) where
-  pub too-long : 1023 < length s → outcome1230 size gs zs ≡ read1230 s p gs zs
+  pub too-long : 1023 < length s → outcome size (gs, zs) ≡ read1230 s p gs zs
   unfolding read1230
   too-long h = rw (lt-ltb _ _ h)
 
   module _ (few : length s ≤ 1023) where
-    pub uneven : (length gs ≡ length zs → ⊥) → outcome1230 size gs zs ≡ read1230 s p gs zs
+    pub uneven : (length gs ≡ length zs → ⊥) → outcome size (gs, zs) ≡ read1230 s p gs zs
     unfolding read1230
     uneven d = rw (le-ltb _ _ few, ne-eqb _ _ d)
 
@@ -194,7 +195,7 @@ module _ (s : List ℕ) (p : ℕ) (gs : List ℕ) (zs : List ℤ) where
     unfolding read1230
     call1230 e b =
         record {
-          left = left1230 gs zs;
+          left = λ t. refusing (gs, zs) t (filled1230 gs zs);
           is = rw (le-ltb _ _ few, eq-eqb _ _ e, b);
           refused = λ m carried. refl;
           accepted = λ r l. ap (outcomeOf (Accepted (counted (length (r .value)) (r .next)))) (sym (put1230-front (r .value) gs zs l (sym e)));

@@ -9,13 +9,14 @@ use lib.Dec.{eqb, ltb}
 use lib.IntN.{ℤ}
 use lib.ListN.{length}
 use Rattle.bits.specs.Told.{Told, Accepted, Refused, size, room, andThen}
+use Rattle.bits.specs.Outcome.{refusing}
 use Rattle.bits.specs.Field.{Reading, readBy, readUnsigned, readTwos}
 use Rattle.bits.specs.Signed.{twosOf}
 use Rattle.bits.proofs.ReadLaws.{refused-short}
 use Rattle.messages.specs.Reader.{many, roomFor}
 use Rattle.messages.specs.Records.{Rec1059, Rec1230}
-use Rattle.messages.specs.Read1059.{biasAt, satelliteAt, block1059, left1059, read1059}
-use Rattle.messages.specs.Read1230.{maskSignals, masked, biasesAt, block1230, left1230, read1230}
+use Rattle.messages.specs.Read1059.{biasAt, satelliteAt, block1059, filled1059, read1059}
+use Rattle.messages.specs.Read1230.{maskSignals, masked, biasesAt, block1230, filled1230, read1230}
 use Rattle.messages.proofs.ExtentLaws.{suffices-1059, suffices-1230}
 
 -- ---- Short alone
@@ -89,7 +90,7 @@ module _ (s : List ℕ) (p : ℕ) where
       let c = not-size (not (eqb (length sats) (length zs))) _ (b .1) in
       roomy (block1059 s p) 422 (length sats) (short1059 s (ltb-false 1023 (length s) (a .0)) p) (λ r f. suffices-1059 s p f) h (c .1)
     where
-      told : (t : Told (Reading (List Rec1059))) → left1059 sats gs zs t .answer ≡ room m → t ≡ room m
+      told : (t : Told (Reading (List Rec1059))) → refusing (sats, gs, zs) t (filled1059 sats gs zs) .answer ≡ room m → t ≡ room m
       told (Accepted r) e = let z : _≡_ {A = ℕ} 0 1 = cc in absurd (omega arith)
       told (Refused n carried) e = cc
 
@@ -100,6 +101,6 @@ module _ (s : List ℕ) (p : ℕ) where
       let b = not-size (not (eqb (length gs) (length zs))) _ (a .1) in
       roomy (block1230 s p) 4 (length gs) (short1230 s (ltb-false 1023 (length s) (a .0)) p) (λ r f. suffices-1230 s p f) h (b .1)
     where
-      told : (t : Told (Reading (List Rec1230))) → left1230 gs zs t .answer ≡ room m → t ≡ room m
+      told : (t : Told (Reading (List Rec1230))) → refusing (gs, zs) t (filled1230 gs zs) .answer ≡ room m → t ≡ room m
       told (Accepted r) e = let z : _≡_ {A = ℕ} 0 1 = cc in absurd (omega arith)
       told (Refused n carried) e = cc

@@ -9,7 +9,7 @@ use borrow.Author.Tests.{ltb-true, ltb-false, le-ltb, ne-eqb}
 use lib.Dec.{T, ltb, ltb→lt}
 use Rattle.messages.specs.Signals.{Entry, entry, isAt, signalOf}
 use Rattle.messages.specs.Signals1059.{edition1, edition2, editions, signals1059, isSignal1059}
-use Rattle.messages.specs.Columns.{maskOf, inMask}
+use Rattle.messages.specs.StepsColumns.{maskOf, inMask}
 use Rattle.messages.proofs.TestLaws.{left, right, all, all-place, below, below-place}
 
 -- a table's numbers are below 32

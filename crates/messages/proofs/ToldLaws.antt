@@ -4,7 +4,6 @@ use mathlib.Core.Bool.{cond}
 use mathlib.Core.List.{List}
 use Prim.Native.Nat.{ℕ}
 use lib.Dec.{eqb}
-use lib.IntN.{ℤ}
 use lib.ListN.{getD}
 use Rattle.bits.specs.Told.{Told, Accepted, Refused, OneToOne}
 use Rattle.bits.specs.Outcome.{Outcome, outcome}
@@ -12,8 +11,6 @@ use Rattle.bits.proofs.OutcomeLaws.{only-outcome}
 use Rattle.bits.proofs.ToldLaws.{found-again}
 use Rattle.messages.specs.Signals.{Signal, sig, Found, At, None}
 use Rattle.messages.specs.Records.{Counted}
-use Rattle.messages.specs.Read1059.{Read1059, outcome1059}
-use Rattle.messages.specs.Read1230.{Read1230, outcome1230}
 use Rattle.messages.specs.Answers.{foundSignal, foundNumber, toldSignal, toldNumber, toldOrder, toldRead, toldBlock}
 use Rattle.messages.specs.declared.signals.SignalFound.{SignalFound}
 use Rattle.messages.specs.declared.signals.SignalFound.the-variants as S
@@ -102,17 +99,8 @@ pub read-one-to-one : OneToOne toldRead
 read-one-to-one = found-again toldRead read read-again
 
 -- two outcomes that a statement allows are equal, the lent lists too
-pub only-read1059 : (d : Read1059) {x y : BlockRead} {sats gs sats′ gs′ : List ℕ} {zs zs′ : List ℤ}
-    → outcome1059 (toldRead x) sats gs zs ≡ d → outcome1059 (toldRead y) sats′ gs′ zs′ ≡ d → (x ≡ y) × (sats ≡ sats′) × (gs ≡ gs′) × (zs ≡ zs′)
-only-read1059 d p q =
-    let e = p ∙ sym q in
-    (read-one-to-one .same (ap (λ r. r .answer) e), ap (λ r. r .satellites) e, ap (λ r. r .signals) e, ap (λ r. r .biases) e)
-
-pub only-read1230 : (d : Read1230) {x y : BlockRead} {gs gs′ : List ℕ} {zs zs′ : List ℤ}
-    → outcome1230 (toldRead x) gs zs ≡ d → outcome1230 (toldRead y) gs′ zs′ ≡ d → (x ≡ y) × (gs ≡ gs′) × (zs ≡ zs′)
-only-read1230 d p q =
-    let e = p ∙ sym q in
-    (read-one-to-one .same (ap (λ r. r .answer) e), ap (λ r. r .signals) e, ap (λ r. r .biases) e)
+pub only-read : {S : Type 0} (d : Outcome Counted S) {x y : BlockRead} {l m : S} → outcome (toldRead x) l ≡ d → outcome (toldRead y) m ≡ d → (x ≡ y) × (l ≡ m)
+only-read d = only-outcome toldRead read-one-to-one d
 
 -- ---- writing a block
 

@@ -15,7 +15,7 @@ use Rattle.messages.specs.Records.{Rec1059, records1059}
 use Rattle.messages.specs.Signals1059.{isEdition, knownEdition}
 use Rattle.messages.specs.Writer.{fine, firstFault, firstRepeat, writeRun}
 use Rattle.messages.specs.Write1059.{fault1059, samePair, crowded, present, fields1059, refusedRecords1059, refused1059, write1059, ofSatellite, satellitesFrom}
-use Rattle.messages.specs.WriteSteps1059.{refusedSound, writeSound, writeKnown, Sound, Linked, crowdedIn, presentIn}
+use Rattle.messages.specs.StepsWrite1059.{refusedFaultless, writeFaultless, writeKnown, Faultless, Linked, crowdedIn, presentIn}
 use Rattle.messages.specs.Put.{Fits, Did}
 use Rattle.messages.proofs.PutLaws.{Left, left-all, left-as, left-fits, left-put, left-none}
 use Rattle.messages.proofs.WriterLaws.{run-refused, run-put, run-room}
@@ -25,27 +25,27 @@ use Rattle.messages.proofs.CrowdLaws.{counts-fit, crowded-is, present-i
 -- ---- records without a fault
 
 module _ (s : List ℕ) (p : ℕ) (rs : List Rec1059) where
-  pub some-crowded : (a : ℕ) → crowded 0 64 rs ≡ tooMany a → outcome (tooMany a) s ≡ writeSound s p rs
-  unfolding writeSound refusedSound
-  some-crowded a e = run-refused (refusedSound rs) s p (fields1059 rs) (rw e)
+  pub some-crowded : (a : ℕ) → crowded 0 64 rs ≡ tooMany a → outcome (tooMany a) s ≡ writeFaultless s p rs
+  unfolding writeFaultless refusedFaultless
+  some-crowded a e = run-refused (refusedFaultless rs) s p (fields1059 rs) (rw e)
 
   module _ (c : crowded 0 64 rs ≡ fine) where
-    pub all-present : present 0 64 rs ≡ 64 → outcome (tooMany 64) s ≡ writeSound s p rs
-    unfolding writeSound refusedSound
-    all-present e = run-refused (refusedSound rs) s p (fields1059 rs) (rw (c, eq-eqb (present 0 64 rs) 64 e))
+    pub all-present : present 0 64 rs ≡ 64 → outcome (tooMany 64) s ≡ writeFaultless s p rs
+    unfolding writeFaultless refusedFaultless
+    all-present e = run-refused (refusedFaultless rs) s p (fields1059 rs) (rw (c, eq-eqb (present 0 64 rs) 64 e))
 
     module _ (n : present 0 64 rs ≡ 64 → ⊥) where
-      pub some-repeat : (i : ℕ) → firstRepeat samePair 0 [] rs ≡ duplicate i → outcome (duplicate i) s ≡ writeSound s p rs
-      unfolding writeSound refusedSound
-      some-repeat i e = run-refused (refusedSound rs) s p (fields1059 rs) (rw (c, ne-eqb (present 0 64 rs) 64 n) e)
+      pub some-repeat : (i : ℕ) → firstRepeat samePair 0 [] rs ≡ duplicate i → outcome (duplicate i) s ≡ writeFaultless s p rs
+      unfolding writeFaultless refusedFaultless
+      some-repeat i e = run-refused (refusedFaultless rs) s p (fields1059 rs) (rw (c, ne-eqb (present 0 64 rs) 64 n) e)
 
-      pub nothing : firstRepeat samePair 0 [] rs ≡ fine → refusedSound rs ≡ fine
-      unfolding refusedSound
+      pub nothing : firstRepeat samePair 0 [] rs ≡ fine → refusedFaultless rs ≡ fine
+      unfolding refusedFaultless
       nothing e = rw (c, ne-eqb (present 0 64 rs) 64 n) e
 
 -- ---- records without a fault, by the counts of their satellites
 
-module _ (s : List ℕ) (p : ℕ) (sats gs : List ℕ) (zs : List ℤ) (d : Sound sats gs zs) (hs ls cs : List ℕ) (l : Linked sats hs ls cs 0) where
+module _ (s : List ℕ) (p : ℕ) (sats gs : List ℕ) (zs : List ℤ) (d : Faultless sats gs zs) (hs ls cs : List ℕ) (l : Linked sats hs ls cs 0) where
   counts : (a : ℕ) → a < 64 → getD cs a 0 ≡ length (ofSatellite a (records1059 sats gs zs))
   counts a h = l .count a h ∙ sym (count-records a sats gs zs (d .signals) (d .biases))
 
@@ -54,7 +54,7 @@ module _ (s : List ℕ) (p : ℕ) (sats gs : List ℕ) (zs : List ℤ) (d : Soun
 
   -- k is the lowest satellite that has over 31 biases, or 64
   module _ (k : ℕ) (ek : cond (ltb k 64) (tooMany k) fine ≡ crowdedIn 0 cs) where
-    pub sound-crowded : k < 64 → outcome (tooMany k) s ≡ writeSound s p (records1059 sats gs zs)
+    pub sound-crowded : k < 64 → outcome (tooMany k) s ≡ writeFaultless s p (records1059 sats gs zs)
     sound-crowded h =
         some-crowded s p (records1059 sats gs zs) k
         (crowd ∙ sym ek ∙ ap (λ (b : Bool). cond b (tooMany k) fine) (lt-ltb k 64 h))
@@ -66,7 +66,7 @@ module _ (s : List ℕ) (p : ℕ) (sats gs : List ℕ) (zs : List ℤ) (d : Soun
       seen : present 0 64 (records1059 sats gs zs) ≡ m
       seen = present-is (records1059 sats gs zs) cs (l .all-counts) counts 64 0 refl ∙ sym em
 
-      pub sound-all : m ≡ 64 → outcome (tooMany 64) s ≡ writeSound s p (records1059 sats gs zs)
+      pub sound-all : m ≡ 64 → outcome (tooMany 64) s ≡ writeFaultless s p (records1059 sats gs zs)
       sound-all e = all-present s p (records1059 sats gs zs) (crowd ∙ none) (seen ∙ e)
 
       pub sound-counts : (a : ℕ) → a < 64 → getD cs a 0 < 32
@@ -75,7 +75,7 @@ module _ (s : List ℕ) (p : ℕ) (sats gs : List ℕ) (zs : List ℤ) (d : Soun
       module _ (n : m ≡ 64 → ⊥) where
         -- j is the first record that repeats an earlier one, or the number of records
         module _ (j : ℕ) (ej : cond (ltb j (length sats)) (duplicate j) fine ≡ firstRepeat samePair 0 [] (records1059 sats gs zs)) where
-          pub sound-repeat : j < length sats → outcome (duplicate j) s ≡ writeSound s p (records1059 sats gs zs)
+          pub sound-repeat : j < length sats → outcome (duplicate j) s ≡ writeFaultless s p (records1059 sats gs zs)
           sound-repeat o =
               some-repeat s p (records1059 sats gs zs) (crowd ∙ none) (λ e. n (sym seen ∙ e)) j
               (sym ej ∙ ap (λ (b : Bool). cond b (duplicate j) fine) (lt-ltb j (length sats) o))
@@ -84,7 +84,7 @@ module _ (s : List ℕ) (p : ℕ) (sats gs : List ℕ) (zs : List ℤ) (d : Soun
             block : total (fields1059 (records1059 sats gs zs)) ≡ 6 + m * 11 + length sats * 19
             block = omega (arith, bits-is (records1059 sats gs zs) cs (l .all-counts) counts, l .sum, em)
 
-            clear : refusedSound (records1059 sats gs zs) ≡ fine
+            clear : refusedFaultless (records1059 sats gs zs) ≡ fine
             clear =
                 nothing s p (records1059 sats gs zs) (crowd ∙ none) (λ e. n (sym seen ∙ e))
                 (sym ej ∙ ap (λ (b : Bool). cond b (duplicate j) fine) (le-ltb j (length sats) v))
@@ -96,11 +96,11 @@ module _ (s : List ℕ) (p : ℕ) (sats gs : List ℕ) (zs : List ℤ) (d : Soun
             begun : Left s p (fields1059 (records1059 sats gs zs)) s p ((bits 6 m ∷ []) ++ satellitesFrom 0 64 (records1059 sats gs zs))
             begun = left-as laid (left-all s p (fields1059 (records1059 sats gs zs)))
 
-            pub sound-room : length s * 8 < p + (6 + m * 11 + length sats * 19) → outcome (room (6 + m * 11 + length sats * 19)) s ≡ writeSound s p (records1059 sats gs zs)
-            unfolding writeSound
+            pub sound-room : length s * 8 < p + (6 + m * 11 + length sats * 19) → outcome (room (6 + m * 11 + length sats * 19)) s ≡ writeFaultless s p (records1059 sats gs zs)
+            unfolding writeFaultless
             sound-room o =
                 ap (λ (k : ℕ). outcome (room k) s) (sym block)
-                ∙ run-room (refusedSound (records1059 sats gs zs)) s p (fields1059 (records1059 sats gs zs)) clear (omega (arith, block))
+                ∙ run-room (refusedFaultless (records1059 sats gs zs)) s p (fields1059 (records1059 sats gs zs)) clear (omega (arith, block))
 
             module _ (few : length s ≤ 1023) (o : p + (6 + m * 11 + length sats * 19) ≤ length s * 8) where
               whole : Fits s p (fields1059 (records1059 sats gs zs))
@@ -117,12 +117,12 @@ module _ (s : List ℕ) (p : ℕ) (sats gs : List ℕ) (zs : List ℤ) (d : Soun
                 sound-rest = left-fits (satellitesFrom 0 64 (records1059 sats gs zs)) [] rest whole
 
                 pub sound-put : (u : List ℕ) → u ≡ putAll t q (satellitesFrom 0 64 (records1059 sats gs zs))
-                    → outcome (Accepted (p + (6 + m * 11 + length sats * 19))) u ≡ writeSound s p (records1059 sats gs zs)
-                unfolding writeSound
+                    → outcome (Accepted (p + (6 + m * 11 + length sats * 19))) u ≡ writeFaultless s p (records1059 sats gs zs)
+                unfolding writeFaultless
                 sound-put u e =
                     ap₂ (λ (k : ℕ) (x : List ℕ). outcome (Accepted (p + k)) x) (sym block)
                     (left-none (left-put (satellitesFrom 0 64 (records1059 sats gs zs)) [] rest (record { end = refl; left = e })) .left)
-                    ∙ sym (run-put (refusedSound (records1059 sats gs zs)) s p (fields1059 (records1059 sats gs zs)) clear (whole .within))
+                    ∙ sym (run-put (refusedFaultless (records1059 sats gs zs)) s p (fields1059 (records1059 sats gs zs)) clear (whole .within))
 
 -- ---- the call
 
@@ -160,8 +160,8 @@ module _ (edition : ℕ) (s : List ℕ) (p : ℕ) (sats gs : List ℕ) (zs : Lis
           unfolding refusedRecords1059
           some-fault e = refusal (rw (by-records, e))
 
-          pub no-fault : firstFault (fault1059 edition) 0 (records1059 sats gs zs) ≡ fine → writeSound s p (records1059 sats gs zs) ≡ writeKnown edition s p sats gs zs
-          unfolding writeKnown writeSound refusedSound refusedRecords1059
+          pub no-fault : firstFault (fault1059 edition) 0 (records1059 sats gs zs) ≡ fine → writeFaultless s p (records1059 sats gs zs) ≡ writeKnown edition s p sats gs zs
+          unfolding writeKnown writeFaultless refusedFaultless refusedRecords1059
           no-fault e = ap (λ (t : Told Unit). writeRun t s p (fields1059 (records1059 sats gs zs))) (sym (by-records ∙ rw e))
 
 -- ---- and of any edition

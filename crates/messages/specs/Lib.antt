@@ -17,7 +17,7 @@ pub mod InOrder
 pub mod Satellites1059
 pub mod I16
 pub mod WrittenBack
-pub mod Columns
-pub mod ReadSteps
+pub mod StepsColumns
+pub mod StepsRead
 pub mod Put
-pub mod WriteSteps1059
+pub mod StepsWrite1059

@@ -5,8 +5,9 @@ use Prim.Native.Nat.{ℕ}
 use lib.ListN.{length}
 use lib.IntN.{ℤ}
 use lib.Dec.{eqb, ltb}
-use Rattle.bits.specs.Told.{Told, Accepted, Refused, andThen, size}
+use Rattle.bits.specs.Told.{Told, Accepted, andThen, size}
 use Rattle.bits.specs.Field.{Reading, reading, readUnsigned, readTwos}
+use Rattle.bits.specs.Outcome.{Outcome, outcome, refusing}
 use Rattle.bits.specs.Onto.{onto}
 use Rattle.messages.specs.Reader.{many, roomFor}
 use Rattle.messages.specs.Records.{Rec1059, rec1059, satelliteOf, signalOf1059, biasOf1059, Counted, counted}
@@ -29,34 +30,21 @@ satelliteAt s p =
 unfoldable pub block1059 : List ℕ → ℕ → Told (Reading (List Rec1059))
 block1059 s p = andThen (readUnsigned s p 6) (λ n. many (satelliteAt s) (n .value) (n .next))
 
--- what a call answers, and the lent lists as it leaves them
-pub record Read1059 : Type 0 where
-  pub answer : Told Counted
-  pub satellites : List ℕ
-  pub signals : List ℕ
-  pub biases : List ℤ
+-- the lent lists once a block was read: their first places hold the satellites, signals and biases of its records, and later places stay
+abbrev pub filled1059 : List ℕ → List ℕ → List ℤ → Reading (List Rec1059) → Outcome Counted (List ℕ × List ℕ × List ℤ)
+filled1059 sats gs zs r =
+    outcome
+    (Accepted (counted (length (r .value)) (r .next)))
+    (onto (map satelliteOf (r .value)) sats, onto (map signalOf1059 (r .value)) gs, onto (map biasOf1059 (r .value)) zs)
 
--- an answer, and the lists
-abbrev pub outcome1059 : Told Counted → List ℕ → List ℕ → List ℤ → Read1059
-outcome1059 a sats gs zs = record { answer = a; satellites = sats; signals = gs; biases = zs }
-
--- a refusal leaves the lists as they came; else their first places hold the records, and later places stay
-abbrev pub left1059 : List ℕ → List ℕ → List ℤ → Told (Reading (List Rec1059)) → Read1059
-left1059 sats gs zs (Accepted r) =
-    record {
-      answer = Accepted (counted (length (r .value)) (r .next));
-      satellites = onto (map satelliteOf (r .value)) sats;
-      signals = onto (map signalOf1059 (r .value)) gs;
-      biases = onto (map biasOf1059 (r .value)) zs;
-    }
-left1059 sats gs zs (Refused n carried) =
-    record { answer = Refused n carried; satellites = sats; signals = gs; biases = zs }
-
--- a call that reads the block from bit p on into the lent lists: Size of the data, Size of unequal lists, Short, Room
-unfoldable pub read1059 : List ℕ → ℕ → List ℕ → List ℕ → List ℤ → Read1059
-read1059 s p sats gs zs =
-    left1059 sats gs zs
-    (cond (ltb 1023 (length s)) size
+-- the records that a call takes, or what it refuses: Size of the data, Size of unequal lists, Short, Room
+abbrev pub taken1059 : List ℕ → ℕ → List ℕ → List ℕ → List ℤ → Told (Reading (List Rec1059))
+taken1059 s p sats gs zs =
+    cond (ltb 1023 (length s)) size
     (cond (not (eqb (length sats) (length gs))) size
     (cond (not (eqb (length sats) (length zs))) size
-    (andThen (block1059 s p) (roomFor (length sats))))))
+    (andThen (block1059 s p) (roomFor (length sats)))))
+
+-- a call that reads the block from bit p on into the lent lists; a refusal leaves them as they came
+unfoldable pub read1059 : List ℕ → ℕ → List ℕ → List ℕ → List ℤ → Outcome Counted (List ℕ × List ℕ × List ℤ)
+read1059 s p sats gs zs = refusing (sats, gs, zs) (taken1059 s p sats gs zs) (filled1059 sats gs zs)

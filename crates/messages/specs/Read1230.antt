@@ -5,8 +5,9 @@ use Prim.Native.Nat.{ℕ, _/_, _%_, _^_}
 use lib.ListN.{length}
 use lib.IntN.{ℤ}
 use lib.Dec.{eqb, ltb}
-use Rattle.bits.specs.Told.{Told, Accepted, Refused, andThen, size}
+use Rattle.bits.specs.Told.{Told, Accepted, andThen, size}
 use Rattle.bits.specs.Field.{Reading, reading, readUnsigned, readTwos}
+use Rattle.bits.specs.Outcome.{Outcome, outcome, refusing}
 use Rattle.bits.specs.Onto.{onto}
 use Rattle.messages.specs.Reader.{before, roomFor}
 use Rattle.messages.specs.Records.{Rec1230, rec1230, signalOf1230, biasOf1230, Counted, counted}
@@ -30,30 +31,18 @@ biasesAt s (g ∷ gs) p = andThen (readTwos s p 16) (λ z. before (rec1230 g (z 
 unfoldable pub block1230 : List ℕ → ℕ → Told (Reading (List Rec1230))
 block1230 s p = andThen (readUnsigned s p 4) (λ m. biasesAt s (masked maskSignals (m .value)) (m .next))
 
--- what a call answers, and the lent lists as it leaves them
-pub record Read1230 : Type 0 where
-  pub answer : Told Counted
-  pub signals : List ℕ
-  pub biases : List ℤ
+-- the lent lists once a block was read: their first places hold the signals and biases of its records, and later places stay
+abbrev pub filled1230 : List ℕ → List ℤ → Reading (List Rec1230) → Outcome Counted (List ℕ × List ℤ)
+filled1230 gs zs r =
+    outcome (Accepted (counted (length (r .value)) (r .next))) (onto (map signalOf1230 (r .value)) gs, onto (map biasOf1230 (r .value)) zs)
 
--- an answer, and the lists
-abbrev pub outcome1230 : Told Counted → List ℕ → List ℤ → Read1230
-outcome1230 a gs zs = record { answer = a; signals = gs; biases = zs }
-
--- a refusal leaves the lists as they came; else their first places hold the records, and later places stay
-abbrev pub left1230 : List ℕ → List ℤ → Told (Reading (List Rec1230)) → Read1230
-left1230 gs zs (Accepted r) =
-    record {
-      answer = Accepted (counted (length (r .value)) (r .next));
-      signals = onto (map signalOf1230 (r .value)) gs;
-      biases = onto (map biasOf1230 (r .value)) zs;
-    }
-left1230 gs zs (Refused n carried) = record { answer = Refused n carried; signals = gs; biases = zs }
-
--- a call that reads the block from bit p on into the lent lists: Size of the data, Size of unequal lists, Short, Room
-unfoldable pub read1230 : List ℕ → ℕ → List ℕ → List ℤ → Read1230
-read1230 s p gs zs =
-    left1230 gs zs
-    (cond (ltb 1023 (length s)) size
+-- the records that a call takes, or what it refuses: Size of the data, Size of unequal lists, Short, Room
+abbrev pub taken1230 : List ℕ → ℕ → List ℕ → List ℤ → Told (Reading (List Rec1230))
+taken1230 s p gs zs =
+    cond (ltb 1023 (length s)) size
     (cond (not (eqb (length gs) (length zs))) size
-    (andThen (block1230 s p) (roomFor (length gs)))))
+    (andThen (block1230 s p) (roomFor (length gs))))
+
+-- a call that reads the block from bit p on into the lent lists; a refusal leaves them as they came
+unfoldable pub read1230 : List ℕ → ℕ → List ℕ → List ℤ → Outcome Counted (List ℕ × List ℤ)
+read1230 s p gs zs = refusing (gs, zs) (taken1230 s p gs zs) (filled1230 gs zs)

@@ -2,10 +2,11 @@
 ghost use mathlib.Core.Path.{_≡_};
 ghost use Prim.Native.Nat.{ℕ, _*_, _≤_};
 ghost use lib.ListN.{length};
+ghost use Rattle.bits.specs.Outcome.{outcome};
 ghost use Rattle.messages.specs.Reader.{many};
-ghost use Rattle.messages.specs.Read1059.{biasAt, satelliteAt, outcome1059, read1059};
+ghost use Rattle.messages.specs.Read1059.{biasAt, satelliteAt, read1059};
 ghost use Rattle.messages.specs.Answers.{toldRead};
-ghost use Rattle.messages.specs.ReadSteps.{counts, Stored, lists1059, put1059, Ready1059};
+ghost use Rattle.messages.specs.StepsRead.{counts, Stored, lists1059, put1059, Ready1059};
 use crate::answer::BlockRead;
 use crate::answer::unread;
 use crate::answer::unread_signed;
@@ -21,7 +22,7 @@ pub fn read(
     signals: &mut [u8],
     biases: &mut [i16],
 ) -> BlockRead
-    ensures { λ r. ⌜ outcome1059 (toldRead r) (now (satellites .exit)) (now (signals .exit)) (now (biases .exit)) ≡ read1059 (now (bytes .entry)) start (now (satellites .entry)) (now (signals .entry)) (now (biases .entry)) ⌝ }
+    ensures { λ r. ⌜ outcome (toldRead r) (now (satellites .exit), now (signals .exit), now (biases .exit)) ≡ read1059 (now (bytes .entry)) start (now (satellites .entry)) (now (signals .entry)) (now (biases .entry)) ⌝ }
 {
     if 1023 < bytes.len() {
         return BlockRead::Size;

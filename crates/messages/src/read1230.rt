@@ -3,9 +3,10 @@ ghost use mathlib.Core.Path.{_≡_};
 ghost use mathlib.Core.List.{List, [], _∷_};
 ghost use Prim.Native.Nat.{ℕ, _*_, _≤_, _<_};
 ghost use lib.ListN.{length};
-ghost use Rattle.messages.specs.Read1230.{maskSignals, masked, biasesAt, outcome1230, read1230};
+ghost use Rattle.bits.specs.Outcome.{outcome};
+ghost use Rattle.messages.specs.Read1230.{maskSignals, masked, biasesAt, read1230};
 ghost use Rattle.messages.specs.Answers.{toldRead};
-ghost use Rattle.messages.specs.ReadSteps.{counts, Stored, lists1230, put1230, Ready1230};
+ghost use Rattle.messages.specs.StepsRead.{counts, Stored, lists1230, put1230, Ready1230};
 use crate::answer::BlockRead;
 use crate::answer::unread;
 use crate::answer::unread_signed;
@@ -18,7 +19,7 @@ pub(crate) const MASK_SIGNALS: [u8; 4] = [2, 3, 8, 9];
 
 // Reads the block from bit `start` on. The first places of the lists take its records, once all of it is read and they have room.
 pub fn read(bytes: &[u8], start: usize, signals: &mut [u8], biases: &mut [i16]) -> BlockRead
-    ensures { λ r. ⌜ outcome1230 (toldRead r) (now (signals .exit)) (now (biases .exit)) ≡ read1230 (now (bytes .entry)) start (now (signals .entry)) (now (biases .entry)) ⌝ }
+    ensures { λ r. ⌜ outcome (toldRead r) (now (signals .exit), now (biases .exit)) ≡ read1230 (now (bytes .entry)) start (now (signals .entry)) (now (biases .entry)) ⌝ }
 {
     if 1023 < bytes.len() {
         return BlockRead::Size;

@@ -7,7 +7,7 @@ ghost use lib.Dec.{eqb};
 ghost use Rattle.messages.specs.Signals.{sig, entry, tableOf, gps, glo, gal, sbas, qzss, bds, navic, signalOf, numberOf};
 ghost use Rattle.messages.specs.SignalOrder.{order, compared, byBand};
 ghost use Rattle.messages.specs.Answers.{foundSignal, foundNumber, toldOrder};
-ghost use Rattle.messages.specs.Columns.{Even, entries, has, lineOf, foundLine, signalAt};
+ghost use Rattle.messages.specs.StepsColumns.{Even, entries, has, lineOf, foundLine, signalAt};
 
 // The signal that a number stands for: its band and its letter, an ASCII byte; or none.
 pub enum SignalFound {

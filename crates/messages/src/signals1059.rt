@@ -6,7 +6,7 @@ ghost use lib.Dec.{eqb};
 ghost use Rattle.messages.specs.Signals.{sig};
 ghost use Rattle.messages.specs.Signals1059.{isEdition, signals1059, namedSignal1059, namedNumber1059};
 ghost use Rattle.messages.specs.Answers.{toldSignal, toldNumber};
-ghost use Rattle.messages.specs.Columns.{foundLine, lineOf, maskOf, inMask};
+ghost use Rattle.messages.specs.StepsColumns.{foundLine, lineOf, maskOf, inMask};
 use crate::signals::Line;
 use crate::signals::Wanted;
 use crate::signals::line_in;

@@ -15,7 +15,7 @@ ghost use Rattle.messages.specs.Put.{Fits, Did};
 ghost use Rattle.messages.specs.Records.{records1059};
 ghost use Rattle.messages.specs.Writer.{fine, firstFault, firstRepeat};
 ghost use Rattle.messages.specs.Write1059.{samePair, ofSatellite, satelliteFields, satellitesFrom, write1059};
-ghost use Rattle.messages.specs.WriteSteps1059.{toldFault, faultBy, Sound, writeSound, writeKnown, nextOf, countOf, Links, Linked, crowdedIn, presentIn};
+ghost use Rattle.messages.specs.StepsWrite1059.{toldFault, faultBy, Faultless, writeFaultless, writeKnown, nextOf, countOf, Links, Linked, crowdedIn, presentIn};
 use crate::answer::BlockWritten;
 use crate::put;
 use crate::signals1059::in_mask;
@@ -69,7 +69,7 @@ fn write_known(
         Fault::Satellite(i) => BlockWritten::Satellite(i),
         Fault::Signal(i) => BlockWritten::Signal(i),
         Fault::Range(i) => BlockWritten::Range(i),
-        Fault::None => write_sound(bytes, start, satellites, signals, biases),
+        Fault::None => write_faultless(bytes, start, satellites, signals, biases),
     }
 }
 
@@ -113,15 +113,15 @@ fn fits_bias(bias: i16) -> bool
 }
 
 // Writes the block of records that have no fault.
-fn write_sound(
+fn write_faultless(
     bytes: &mut [u8],
     start: usize,
     satellites: &[u8],
     signals: &[u8],
     biases: &[i16],
 ) -> BlockWritten
-    requires { ⌜ (length (now bytes) ≤ 1023) × Sound (now satellites) (now signals) (now biases) ⌝ }
-    ensures { λ r. ⌜ outcome (toldBlock r) (now (bytes .exit)) ≡ writeSound (now (bytes .entry)) start (records1059 (now (satellites .entry)) (now (signals .entry)) (now (biases .entry))) ⌝ }
+    requires { ⌜ (length (now bytes) ≤ 1023) × Faultless (now satellites) (now signals) (now biases) ⌝ }
+    ensures { λ r. ⌜ outcome (toldBlock r) (now (bytes .exit)) ≡ writeFaultless (now (bytes .entry)) start (records1059 (now (satellites .entry)) (now (signals .entry)) (now (biases .entry))) ⌝ }
 {
     let n = satellites.len();
     let mut heads = [n as u16; 64];
@@ -240,7 +240,7 @@ fn put_satellites(
     signals: &[u8],
     biases: &[i16],
 )
-    requires { ⌜ Fits (now bytes) start (satellitesFrom 0 64 (records1059 (now satellites) (now signals) (now biases))) × Sound (now satellites) (now signals) (now biases) × Linked (now satellites) (now heads) (now links) (now counts) 0 × ((a : ℕ) → a < 64 → getD (now counts) a 0 < 32) ⌝ }
+    requires { ⌜ Fits (now bytes) start (satellitesFrom 0 64 (records1059 (now satellites) (now signals) (now biases))) × Faultless (now satellites) (now signals) (now biases) × Linked (now satellites) (now heads) (now links) (now counts) 0 × ((a : ℕ) → a < 64 → getD (now counts) a 0 < 32) ⌝ }
     ensures { λ r. ⌜ now (bytes .exit) ≡ putAll (now (bytes .entry)) start (satellitesFrom 0 64 (records1059 (now (satellites .entry)) (now (signals .entry)) (now (biases .entry)))) ⌝ }
 {
     let mut at = start;
@@ -274,7 +274,7 @@ fn put_satellite(
     signals: &[u8],
     biases: &[i16],
 ) -> usize
-    requires { ⌜ Fits (now bytes) start (satelliteFields a (ofSatellite a (records1059 (now satellites) (now signals) (now biases)))) × Sound (now satellites) (now signals) (now biases) × Links (now satellites) (now links) 0 × (a < 64) × (count ≡ countOf a (now satellites)) × (count < 32) × (head ≡ nextOf (now satellites) a 0) ⌝ }
+    requires { ⌜ Fits (now bytes) start (satelliteFields a (ofSatellite a (records1059 (now satellites) (now signals) (now biases)))) × Faultless (now satellites) (now signals) (now biases) × Links (now satellites) (now links) 0 × (a < 64) × (count ≡ countOf a (now satellites)) × (count < 32) × (head ≡ nextOf (now satellites) a 0) ⌝ }
     ensures { λ r. ⌜ Did (now (bytes .entry)) start (satelliteFields a (ofSatellite a (records1059 (now (satellites .entry)) (now (signals .entry)) (now (biases .entry))))) (now (bytes .exit)) r ⌝ }
 {
     if count == 0 {

@@ -4,19 +4,14 @@ use mathlib.Core.Bool.{Bool, true, false, cond}
 use mathlib.Core.List.{List, [], _∷_}
 use Prim.Native.Nat.{ℕ}
 use lib.ListN.{length}
-use lib.IntN.{ℤ}
 use lib.Dec.{eqb}
 use borrow.Author.Tests.{eq-eqb, ne-eqb}
 use Rattle.bits.specs.Told.{Told, Accepted}
 use Rattle.bits.specs.Outcome.{Outcome, outcome}
 use Rattle.frames.specs.Rtcm.{Kind}
 use Rattle.frames.specs.Call.{Scanner, FedAnswer, Frame, FedOutcome}
-use Rattle.messages.specs.Records.{Counted}
-use Rattle.messages.specs.Read1059.{Read1059, outcome1059}
-use Rattle.messages.specs.Read1230.{Read1230, outcome1230}
 use Rattle.peerivolt.specs.Extra.{Numbers, numbers, inNumbers, returned, answered, reads}
 use Rattle.peerivolt.specs.Scanner.{kindNumber, fedValues, feeds}
-use Rattle.peerivolt.specs.Biases.{countedValues, reads1059, reads1230}
 
 -- an answer x of the code that is known to be y tells what y tells
 pub tells : {E A : Type 0} (values : A → List ℕ) (told : E → Told A) {x y : E} → x ≡ y → inNumbers values (told y) ≡ inNumbers values (told x)
@@ -78,30 +73,3 @@ unfolding feeds
 fed a o e k h q p =
     sized fedValues e (a, o) h q p
     ∙ simp (eq-eqb (length a) 1029 k)
-
--- ---- reading a bias block
-
-pub not-read1059 : (sats gs : List ℕ) (zs : List ℤ) (w : Read1059) (e : List ℕ)
-    → (length e ≡ 8 → ⊥) → returned 9 e (sats, gs, zs) ≡ reads1059 sats gs zs w e
-unfolding reads1059
-not-read1059 sats gs zs w e n =
-    not-sized countedValues e (sats, gs, zs) (outcome (w .answer) (w .satellites, w .signals, w .biases)) n
-
-pub read1059 : (sats gs : List ℕ) (zs : List ℤ) {told : Told Counted} {sats' gs' : List ℕ} {zs' : List ℤ} {w : Read1059} (e : List ℕ) {r : ℕ} {e' : List ℕ}
-    → length e ≡ 8 → numbers r e' ≡ inNumbers countedValues told → outcome1059 told sats' gs' zs' ≡ w
-    → returned r e' (sats', gs', zs') ≡ reads1059 sats gs zs w e
-unfolding reads1059
-read1059 sats gs zs e h q o =
-    sized countedValues e (sats, gs, zs) h q (ap (λ (w : Read1059). outcome (w .answer) (w .satellites, w .signals, w .biases)) o)
-
-pub not-read1230 : (gs : List ℕ) (zs : List ℤ) (w : Read1230) (e : List ℕ)
-    → (length e ≡ 8 → ⊥) → returned 9 e (gs, zs) ≡ reads1230 gs zs w e
-unfolding reads1230
-not-read1230 gs zs w e n = not-sized countedValues e (gs, zs) (outcome (w .answer) (w .signals, w .biases)) n
-
-pub read1230 : (gs : List ℕ) (zs : List ℤ) {told : Told Counted} {gs' : List ℕ} {zs' : List ℤ} {w : Read1230} (e : List ℕ) {r : ℕ} {e' : List ℕ}
-    → length e ≡ 8 → numbers r e' ≡ inNumbers countedValues told → outcome1230 told gs' zs' ≡ w
-    → returned r e' (gs', zs') ≡ reads1230 gs zs w e
-unfolding reads1230
-read1230 gs zs e h q o =
-    sized countedValues e (gs, zs) h q (ap (λ (w : Read1230). outcome (w .answer) (w .signals, w .biases)) o)

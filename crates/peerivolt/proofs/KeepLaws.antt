@@ -17,9 +17,11 @@ use Rattle.frames.specs.Modes.{framingOf}
 use Rattle.frames.specs.Call.{feedOf}
 use Rattle.frames.proofs.WriteLaws as frame
 use Rattle.frames.proofs.CallLaws.{feed-keeps}
+use Rattle.messages.specs.Read1059.{read1059}
+use Rattle.messages.specs.Read1230.{read1230}
 use Rattle.messages.specs.Write1059.{write1059}
 use Rattle.messages.specs.Write1230.{write1230}
-use Rattle.messages.proofs.KeepLaws.{refused-write-1059, refused-write-1230}
+use Rattle.messages.proofs.KeepLaws.{refused-read-1059, refused-read-1230, refused-write-1059, refused-write-1230}
 use Rattle.settings.specs.Read.{readSettings}
 use Rattle.settings.specs.Write.{writeSettings}
 use Rattle.settings.proofs.KeepLaws as settings
@@ -33,6 +35,7 @@ use Rattle.observations.proofs.ToldLaws as m1001
 use Rattle.peerivolt.specs.Extra.{inNumbers, Returned, returned, ifSized, answered}
 use Rattle.peerivolt.specs.Fields.{endValues}
 use Rattle.peerivolt.specs.Scanner.{scannerOf, fedValues, feeds}
+use Rattle.peerivolt.specs.Biases.{countedValues}
 use Rattle.peerivolt.specs.Settings.{foundValues, readsSettings}
 use Rattle.peerivolt.specs.Cache.{valueValues}
 use Rattle.peerivolt.specs.Message1001.{seenValues}
@@ -95,6 +98,12 @@ keeps-pv-1001-read s l e = answered-keeps l seenValues e (read1001 s l) (m1001.r
 
 pub keeps-pv-1001-write : (s : List ℕ) (h : Header) (l : Lists) (e : List ℕ) → RefusedKeeps s (answered endValues e s (write1001 s h l))
 keeps-pv-1001-write s h l e = answered-keeps s endValues e (write1001 s h l) (m1001.write-keeps s h l)
+
+pub keeps-pv-1059-read : (s : List ℕ) (p : ℕ) (sats gs : List ℕ) (zs : List ℤ) (e : List ℕ) → RefusedKeeps (sats, gs, zs) (answered countedValues e (sats, gs, zs) (read1059 s p sats gs zs))
+keeps-pv-1059-read s p sats gs zs e = answered-keeps (sats, gs, zs) countedValues e (read1059 s p sats gs zs) (refused-read-1059 s p sats gs zs)
+
+pub keeps-pv-1230-read : (s : List ℕ) (p : ℕ) (gs : List ℕ) (zs : List ℤ) (e : List ℕ) → RefusedKeeps (gs, zs) (answered countedValues e (gs, zs) (read1230 s p gs zs))
+keeps-pv-1230-read s p gs zs e = answered-keeps (gs, zs) countedValues e (read1230 s p gs zs) (refused-read-1230 s p gs zs)
 
 pub keeps-pv-1059-write : (edition : ℕ) (s : List ℕ) (p : ℕ) (sats gs : List ℕ) (zs : List ℤ) (e : List ℕ) → RefusedKeeps s (answered endValues e s (write1059 edition s p sats gs zs))
 keeps-pv-1059-write edition s p sats gs zs e = answered-keeps s endValues e (write1059 edition s p sats gs zs) (refused-write-1059 s p edition sats gs zs)

@@ -40,7 +40,7 @@ use Rattle.peerivolt.specs.Extra.{Returned, returned, answered, reads}
 use Rattle.peerivolt.specs.Fields.{readingValues, signedValues, endValues}
 use Rattle.peerivolt.specs.Frames.{wholeValues}
 use Rattle.peerivolt.specs.Scanner.{scannerOf, feeds}
-use Rattle.peerivolt.specs.Biases.{reads1059, reads1230}
+use Rattle.peerivolt.specs.Biases.{countedValues}
 use Rattle.peerivolt.specs.Signals.{signalValues, numberValues, orderValues}
 
 -- two answers that are both d are equal, number, extra area and lent areas
@@ -106,14 +106,14 @@ pub only-pv-feed : (held : List ℕ) (count taken mode : ℕ) (piece out e : Lis
     → OneAnswer (feeds held out (feedOf (framingOf mode) held (scannerOf count taken mode) piece out) e)
 only-pv-feed held count taken mode piece out e = only-returned (feeds held out (feedOf (framingOf mode) held (scannerOf count taken mode) piece out) e)
 
-pub only-pv-1059-read : (s : List ℕ) (p : ℕ) (sats gs : List ℕ) (zs : List ℤ) (e : List ℕ) → OneAnswer (reads1059 sats gs zs (read1059 s p sats gs zs) e)
-only-pv-1059-read s p sats gs zs e = only-returned (reads1059 sats gs zs (read1059 s p sats gs zs) e)
+pub only-pv-1059-read : (s : List ℕ) (p : ℕ) (sats gs : List ℕ) (zs : List ℤ) (e : List ℕ) → OneAnswer (answered countedValues e (sats, gs, zs) (read1059 s p sats gs zs))
+only-pv-1059-read s p sats gs zs e = only-returned (answered countedValues e (sats, gs, zs) (read1059 s p sats gs zs))
 
 pub only-pv-1059-write : (edition : ℕ) (s : List ℕ) (p : ℕ) (sats gs : List ℕ) (zs : List ℤ) (e : List ℕ) → OneAnswer (answered endValues e s (write1059 edition s p sats gs zs))
 only-pv-1059-write edition s p sats gs zs e = only-returned (answered endValues e s (write1059 edition s p sats gs zs))
 
-pub only-pv-1230-read : (s : List ℕ) (p : ℕ) (gs : List ℕ) (zs : List ℤ) (e : List ℕ) → OneAnswer (reads1230 gs zs (read1230 s p gs zs) e)
-only-pv-1230-read s p gs zs e = only-returned (reads1230 gs zs (read1230 s p gs zs) e)
+pub only-pv-1230-read : (s : List ℕ) (p : ℕ) (gs : List ℕ) (zs : List ℤ) (e : List ℕ) → OneAnswer (answered countedValues e (gs, zs) (read1230 s p gs zs))
+only-pv-1230-read s p gs zs e = only-returned (answered countedValues e (gs, zs) (read1230 s p gs zs))
 
 pub only-pv-1230-write : (s : List ℕ) (p : ℕ) (gs : List ℕ) (zs : List ℤ) (e : List ℕ) → OneAnswer (answered endValues e s (write1230 s p gs zs))
 only-pv-1230-write s p gs zs e = only-returned (answered endValues e s (write1230 s p gs zs))

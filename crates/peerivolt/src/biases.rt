@@ -9,7 +9,7 @@ ghost use Rattle.messages.specs.Answers.{toldRead, toldBlock};
 ghost use Rattle.peerivolt.specs.Extra.{returned, answered, inNumbers};
 ghost use Rattle.peerivolt.specs.Answers.{replied};
 ghost use Rattle.peerivolt.specs.Fields.{endValues};
-ghost use Rattle.peerivolt.specs.Biases.{countedValues, reads1059, reads1230};
+ghost use Rattle.peerivolt.specs.Biases.{countedValues};
 use crate::extra;
 use crate::extra::Reply;
 use messages::answer::BlockRead;
@@ -31,7 +31,7 @@ pub extern "C" fn pv_1059_read(
     biases: &mut [i16],
     extra: &mut [u64],
 ) -> u32
-    ensures { λ r. ⌜ returned r (now (extra .exit)) (now (satellites .exit), now (signals .exit), now (biases .exit)) ≡ reads1059 (now (satellites .entry)) (now (signals .entry)) (now (biases .entry)) (read1059 (now (bytes .entry)) start (now (satellites .entry)) (now (signals .entry)) (now (biases .entry))) (now (extra .entry)) ⌝ }
+    ensures { λ r. ⌜ returned r (now (extra .exit)) (now (satellites .exit), now (signals .exit), now (biases .exit)) ≡ answered countedValues (now (extra .entry)) (now (satellites .entry), now (signals .entry), now (biases .entry)) (read1059 (now (bytes .entry)) start (now (satellites .entry)) (now (signals .entry)) (now (biases .entry))) ⌝ }
 {
     if extra.len() != 8 {
         return 9;
@@ -73,7 +73,7 @@ pub extern "C" fn pv_1230_read(
     biases: &mut [i16],
     extra: &mut [u64],
 ) -> u32
-    ensures { λ r. ⌜ returned r (now (extra .exit)) (now (signals .exit), now (biases .exit)) ≡ reads1230 (now (signals .entry)) (now (biases .entry)) (read1230 (now (bytes .entry)) start (now (signals .entry)) (now (biases .entry))) (now (extra .entry)) ⌝ }
+    ensures { λ r. ⌜ returned r (now (extra .exit)) (now (signals .exit), now (biases .exit)) ≡ answered countedValues (now (extra .entry)) (now (signals .entry), now (biases .entry)) (read1230 (now (bytes .entry)) start (now (signals .entry)) (now (biases .entry))) ⌝ }
 {
     if extra.len() != 8 {
         return 9;

@@ -1,5 +1,7 @@
 // The table of one block.
 use messages::answer::BlockRead;
+use messages::bias::Bias1059;
+use messages::bias::Bias1230;
 use messages::read1059;
 use messages::read1230;
 use messages::signals;
@@ -128,7 +130,7 @@ fn rows(
         }
         satellite(number, satellites[i], out, at);
         name(signal_of(number, edition, signals[i]), signals[i], out, at);
-        values(number, amount(biases[i]), out, at);
+        values(number, biases[i], out, at);
         i += 1;
     }
 }
@@ -156,10 +158,6 @@ fn of_edition(answer: Signal1059) -> SignalFound {
     }
 }
 
-fn amount(bias: i16) -> Amount {
-    printing::amount_of(bias as i64)
-}
-
 // The name of a signal: its band and its letter, or its number in brackets.
 fn name(found: SignalFound, number: u8, out: &mut [u8; 65536], at: &mut usize) {
     match found {
@@ -181,21 +179,26 @@ fn bracket(number: u8, out: &mut [u8; 65536], at: &mut usize) {
 }
 
 // The raw number and the metres of a row.
-fn values(number: u64, raw: Amount, out: &mut [u8; 65536], at: &mut usize) {
-    printing::signed(out, at, raw, 10);
-    printing::hundredths(out, at, hundredths_of(number, raw), 10);
+fn values(number: u64, bias: i16, out: &mut [u8; 65536], at: &mut usize) {
+    printing::signed(out, at, amount(bias), 10);
+    printing::hundredths(out, at, length(hundredths(number, bias)), 10);
     text(out, at, b"\n");
 }
 
-// A bias of 1059 is in 0.01 m, one of 1230 in 0.02 m.
-fn hundredths_of(number: u64, raw: Amount) -> Amount {
+fn amount(bias: i16) -> Amount {
+    printing::amount_of(bias as i64)
+}
+
+fn length(hundredths: i32) -> Amount {
+    printing::amount_of(hundredths as i64)
+}
+
+// The raw number as a bias of its message, whose kind knows its unit.
+fn hundredths(number: u64, bias: i16) -> i32 {
     if number == 1059 {
-        return raw;
+        return Bias1059(bias).hundredths();
     }
-    Amount {
-        negative: raw.negative,
-        size: num::wrapping_add_u64(raw.size, raw.size),
-    }
+    Bias1230(bias).hundredths()
 }
 
 // How many bits of the data are behind the block.

@@ -6,10 +6,10 @@ use borrow.Author.Tests.{lt-ltb, le-ltb, eq-eqb, ne-eqb}
 use lib.ListN.{length}
 use lib.IntN.{ℤ}
 use Rattle.bits.specs.Told.{Told, Accepted, Refused, size}
-use Rattle.bits.specs.Outcome.{outcome}
+use Rattle.bits.specs.Outcome.{Outcome, outcome}
 use Rattle.bits.specs.Field.{reading}
 use Rattle.messages.specs.Records.{Counted}
-use Rattle.messages.specs.Read1059.{Read1059, outcome1059, read1059}
+use Rattle.messages.specs.Read1059.{read1059}
 use Rattle.whole.specs.declared.answer.Header1059.{Header1059}
 use Rattle.whole.specs.Headers.{front1059}
 use Rattle.whole.specs.Whole.{Whole, headed}
@@ -36,7 +36,7 @@ module _ (s : List ℕ) (sats gs : List ℕ) (zs : List ℤ) where
         refused r = rw (le-ltb _ _ few, eq-eqb _ _ e, eq-eqb _ _ f) (rw (sym r))
 
         pub reads : {h : Header1059} {b : Told Counted} {sats2 gs2 : List ℕ} {zs2 : List ℤ} {w : Told (Whole Header1059)} → Accepted (reading h 61) ≡ front1059 .reads s 0
-            → outcome1059 b sats2 gs2 zs2 ≡ read1059 s 61 sats gs zs → w ≡ headed h b → outcome w (sats2, gs2, zs2) ≡ readMessage1059 s sats gs zs
+            → outcome b (sats2, gs2, zs2) ≡ read1059 s 61 sats gs zs → w ≡ headed h b → outcome w (sats2, gs2, zs2) ≡ readMessage1059 s sats gs zs
         unfolding readMessage1059 sizes1059
         reads {h} r o v =
-            rw (le-ltb _ _ few, eq-eqb _ _ e, eq-eqb _ _ f) (rw (sym r) (rw v (ap (λ (r : Read1059). outcome (headed h (r .answer)) (r .satellites, r .signals, r .biases)) o)))
+            rw (le-ltb _ _ few, eq-eqb _ _ e, eq-eqb _ _ f) (rw (sym r) (rw v (ap (λ (r : Outcome Counted (List ℕ × List ℕ × List ℤ)). outcome (headed h (r .answer)) (r .areas)) o)))

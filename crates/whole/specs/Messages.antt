@@ -34,7 +34,7 @@ readMessage1059 s sats gs zs =
     refusing (sats, gs, zs) (sizes1059 s sats gs zs) (λ u.
     refusing (sats, gs, zs) (front1059 .reads s 0) (λ h.
     let w = read1059 s (h .next) sats gs zs in
-    outcome (headed (h .value) (w .answer)) (w .satellites, w .signals, w .biases)))
+    outcome (headed (h .value) (w .answer)) (w .areas)))
 
 -- what is refused before the records: Kind of the edition, the sizes, over 1,953 records, Range with 0 of the header
 unfoldable pub refused1059 : ℕ → ℕ → Header1059 → List ℕ → List ℕ → List ℤ → Told Unit
@@ -64,7 +64,7 @@ readMessage1230 s gs zs =
     refusing (gs, zs) (sizes1230 s gs zs) (λ u.
     refusing (gs, zs) (front1230 .reads s 0) (λ h.
     let w = read1230 s (h .next) gs zs in
-    outcome (headed (h .value) (w .answer)) (w .signals, w .biases)))
+    outcome (headed (h .value) (w .answer)) (w .areas)))
 
 -- what is refused before the records: the sizes, over 4 records, Range with 0 of the header
 unfoldable pub refused1230 : ℕ → Header1230 → List ℕ → List ℤ → Told Unit

@@ -2,7 +2,7 @@
 use mathlib.Core.Path.{sym, ap, _∙_}
 use native.Mathlib.Omega.{arith}
 use Rattle.bits.specs.Answers.{toldUnsigned}
-use Rattle.messages.specs.ReadSteps.{counts}
+use Rattle.messages.specs.StepsRead.{counts}
 use Rattle.messages.proofs.ArmLaws.{unsigned-cut, value-within}
 use Rattle.messages.proofs.PassLaws.{counts-short}
 use Rattle.messages.proofs.Read1059Laws.{satellite-cut, satellite-cut-2, satellite-read}

@@ -2,7 +2,7 @@
 use mathlib.Core.Path.{refl, sym, ap, _∙_}
 use native.Mathlib.Omega.{arith}
 use Rattle.bits.specs.Answers.{toldUnsigned}
-use Rattle.messages.specs.ReadSteps.{put1059}
+use Rattle.messages.specs.StepsRead.{put1059}
 use Rattle.messages.specs.Answers.{toldRead}
 use Rattle.messages.proofs.ArmLaws.{unsigned-cut, value-within, is-short, read-refused}
 use Rattle.messages.proofs.PassLaws.{counts-short}
@@ -47,7 +47,7 @@ returns-6 c =
 store-requires : tie.Need-store-requires
 store-requires c κs =
     let e = ap toldRead (sym (c .before .before .before .before .before .extent .given .1)) ∙ c .before .before .before .before .before .before .before .measure .ensures in
-    record { few = omega arith; placed = has-room _ _ e (omega arith); signals = omega arith; biases = omega arith }
+    record { few = omega arith; suffices = has-room _ _ e (omega arith); signals = omega arith; biases = omega arith }
 
 returns-7 : tie.Need-returns-7
 returns-7 c =

@@ -5,12 +5,12 @@ use native.Mathlib.Omega.{arith}
 use borrow.Author.Needs.{needs}
 use lib.ListN.{length}
 use Rattle.messages.specs.Reader.{many}
-use Rattle.messages.specs.ReadSteps.{lists1059, put1059}
+use Rattle.messages.specs.StepsRead.{lists1059, put1059}
 use Rattle.messages.specs.Read1059.{satelliteAt}
 use Rattle.messages.specs.Answers.{toldRead}
 use Rattle.messages.proofs.ArmLaws.{read-refused}
 use Rattle.messages.proofs.PassLaws.{many-all}
-use Rattle.messages.proofs.StoreLaws.{Doing, begun, left-as, turn-placed, turn-read, turn-stored, turns-done, put1059-none, put1059-on}
+use Rattle.messages.proofs.StoreLaws.{Doing, begun, left-as, turn-suffices, turn-read, turn-stored, turns-done, put1059-none, put1059-on}
 use Rattle.messages.proofs.read1059.store.Statement.{statement}
 use Rattle.messages.proofs.read1059.store.Tie as tie
 
@@ -25,7 +25,7 @@ abbrev μ-loop : tie.MeasureT-loop
 loop-holds : tie.Need-loop-holds Inv-loop μ-loop
 loop-holds c =
     let r = c .before .before .before .pre in
-    (omega arith, refl, r .signals, r .biases, left-as put1059 (begun put1059 (r .placed)) (many-all _ _ _))
+    (omega arith, refl, r .signals, r .biases, left-as put1059 (begun put1059 (r .suffices)) (many-all _ _ _))
 
 store-satellite-requires : tie.Need-store-satellite-requires Inv-loop μ-loop
 store-satellite-requires c κs =
@@ -33,7 +33,7 @@ store-satellite-requires c κs =
     let few = c .before .before .before .before .before .before .before .before .pre .few in
     record {
       few = few;
-      placed = rw (l .inv .1) (turn-placed put1059 _ _ (l .k) (l .at) (l .i) (l .inv .4) (omega arith));
+      suffices = rw (l .inv .1) (turn-suffices put1059 _ _ (l .k) (l .at) (l .i) (l .inv .4) (omega arith));
       signals = omega arith;
       biases = omega arith;
     }

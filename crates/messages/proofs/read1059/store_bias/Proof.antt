@@ -2,10 +2,10 @@
 use mathlib.Core.Path.{sym, ap, _∙_}
 use native.Mathlib.Omega.{arith}
 use Rattle.bits.specs.Answers.{toldUnsigned, toldSigned}
-use Rattle.messages.specs.ReadSteps.{put1059}
+use Rattle.messages.specs.StepsRead.{put1059}
 use Rattle.messages.proofs.ArmLaws.{unsigned-cut, twos-cut, value-within}
 use Rattle.messages.proofs.I16Laws.{bias-narrow}
-use Rattle.messages.proofs.PassLaws.{placed-one, stored-short}
+use Rattle.messages.proofs.PassLaws.{suffices-one, stored-short}
 use Rattle.messages.proofs.StoreLaws.{put1059-none}
 use Rattle.messages.proofs.Read1059Laws.{bias-cut, bias-cut-2, bias-read, bias-stored}
 use borrow.Author.Needs.{needs}
@@ -33,7 +33,7 @@ slice-write-satellites c =
     let b = c .before .before .before .before .before in
     let e = sym (b .before .before .read-unsigned .ensures) ∙ ap toldUnsigned (b .read .given .1) in
     let f = sym (c .before .before .before .read-twos .ensures) ∙ ap toldSigned (c .before .read2 .given .1) in
-    let h = placed-one (b .before .before .before .before .before .before .pre .placed) (bias-read _ _ _ e f) in
+    let h = suffices-one (b .before .before .before .before .before .before .pre .suffices) (bias-read _ _ _ e f) in
     omega arith
 
 cast-signals : tie.Need-cast-signals
@@ -47,7 +47,7 @@ slice-write-signals c =
     let b = c .before .before .before .before .before in
     let e = sym (b .before .before .read-unsigned .ensures) ∙ ap toldUnsigned (b .read .given .1) in
     let f = sym (c .before .before .before .read-twos .ensures) ∙ ap toldSigned (c .before .read2 .given .1) in
-    let h = placed-one (b .before .before .before .before .before .before .pre .placed) (bias-read _ _ _ e f) in
+    let h = suffices-one (b .before .before .before .before .before .before .pre .suffices) (bias-read _ _ _ e f) in
     omega arith
 
 cast-biases : tie.Need-cast-biases
@@ -59,7 +59,7 @@ slice-set-from-biases c =
     let b = c .before .before .before .before .before in
     let e = sym (b .before .before .read-unsigned .ensures) ∙ ap toldUnsigned (b .read .given .1) in
     let f = sym (c .before .before .before .read-twos .ensures) ∙ ap toldSigned (c .before .read2 .given .1) in
-    let h = placed-one (b .before .before .before .before .before .before .pre .placed) (bias-read _ _ _ e f) in
+    let h = suffices-one (b .before .before .before .before .before .before .pre .suffices) (bias-read _ _ _ e f) in
     omega arith
 
 returns-3 : tie.Need-returns-3

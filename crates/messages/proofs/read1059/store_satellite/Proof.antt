@@ -2,9 +2,9 @@
 use mathlib.Core.Path.{sym, ap, _∙_}
 use native.Mathlib.Omega.{arith}
 use Rattle.bits.specs.Answers.{toldUnsigned}
-use Rattle.messages.specs.ReadSteps.{put1059}
+use Rattle.messages.specs.StepsRead.{put1059}
 use Rattle.messages.proofs.ArmLaws.{unsigned-cut, value-within}
-use Rattle.messages.proofs.PassLaws.{placed-as, stored-short, stored-as}
+use Rattle.messages.proofs.PassLaws.{suffices-as, stored-short, stored-as}
 use Rattle.messages.proofs.StoreLaws.{put1059-none}
 use Rattle.messages.proofs.Read1059Laws.{satellite-cut, satellite-cut-2, satellite-read}
 use borrow.Author.Needs.{needs}
@@ -36,7 +36,7 @@ store-biases-requires c κs =
     let r = c .before .before .before .before .before .before .before .before .before .before .before .before .before .before .pre in
     let e = sym (c .before .before .before .before .before .before .before .before .before .before .read-unsigned .ensures) ∙ ap toldUnsigned (c .before .before .before .before .before .before .before .before .read .given .1) in
     let f = sym (c .before .before .before .before .before .before .read-unsigned2 .ensures) ∙ ap toldUnsigned (c .before .before .before .before .read2 .given .1) in
-    record { few = r .few; placed = placed-as (satellite-read _ _ e f) (r .placed); signals = r .signals; biases = r .biases }
+    record { few = r .few; suffices = suffices-as (satellite-read _ _ e f) (r .suffices); signals = r .signals; biases = r .biases }
 
 returns-3 : tie.Need-returns-3
 returns-3 c =

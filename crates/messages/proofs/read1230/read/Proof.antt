@@ -3,7 +3,7 @@ use mathlib.Core.Path.{refl, sym, ap, _∙_}
 use native.Mathlib.Omega.{arith}
 use Rattle.bits.specs.Answers.{toldUnsigned}
 use Rattle.messages.specs.Read1230.{maskSignals, masked}
-use Rattle.messages.specs.ReadSteps.{put1230}
+use Rattle.messages.specs.StepsRead.{put1230}
 use Rattle.messages.specs.Answers.{toldRead}
 use Rattle.messages.proofs.ArmLaws.{unsigned-cut, value-within, is-short, read-refused}
 use Rattle.messages.proofs.PassLaws.{counts-short}
@@ -50,7 +50,7 @@ returns-5 c =
 store-requires : tie.Need-store-requires
 store-requires c κs =
     let e = ap toldRead (sym (c .before .before .before .before .before .extent .given .1)) ∙ c .before .before .before .before .before .before .before .measure .ensures (masked maskSignals _) (sym (c .before .before .before .before .before .before .before .before .signals-in .ensures .0)) in
-    (refl, record { few = omega arith; placed = has-room _ _ e (omega arith); biases = omega arith })
+    (refl, record { few = omega arith; suffices = has-room _ _ e (omega arith); biases = omega arith })
 
 returns-6 : tie.Need-returns-6
 returns-6 c =

@@ -5,11 +5,11 @@ use native.Mathlib.Omega.{arith}
 use borrow.Author.Needs.{needs}
 use lib.ListN.{length, drop}
 use Rattle.messages.specs.Read1230.{maskSignals, masked, biasesAt}
-use Rattle.messages.specs.ReadSteps.{lists1230, put1230}
+use Rattle.messages.specs.StepsRead.{lists1230, put1230}
 use Rattle.messages.specs.Answers.{toldRead}
 use Rattle.messages.proofs.ArmLaws.{read-refused}
 use Rattle.messages.proofs.StoreLaws.{Doing, begun, left-as, done, put1230-none}
-use Rattle.messages.proofs.Read1230Laws.{masked-lacks, masked-none, signal-placed, signal-read, signal-stored}
+use Rattle.messages.proofs.Read1230Laws.{masked-lacks, masked-none, signal-suffices, signal-read, signal-stored}
 use Rattle.messages.proofs.read1230.store.Statement.{statement}
 use Rattle.messages.proofs.read1230.store.Tie as tie
 
@@ -24,7 +24,7 @@ abbrev μ-loop : tie.MeasureT-loop
 loop-holds : tie.Need-loop-holds Inv-loop μ-loop
 loop-holds c =
     let r = c .before .before .pre .1 in
-    (omega arith, refl, r .biases, begun put1230 (r .placed))
+    (omega arith, refl, r .biases, begun put1230 (r .suffices))
 
 loop-again : tie.Need-loop-again Inv-loop μ-loop
 loop-again c =
@@ -37,7 +37,7 @@ store-bias-requires c κs =
     let r = c .before .before .before .before .before .before .before .before .pre in
     record {
       few = r .1 .few;
-      placed = rw (l .inv .1) (signal-placed _ _ (l .k) _ (l .at) (r .0) (omega arith) (c .before .before .before .if1 .left) (l .i) (l .inv .3));
+      suffices = rw (l .inv .1) (signal-suffices _ _ (l .k) _ (l .at) (r .0) (omega arith) (c .before .before .before .if1 .left) (l .i) (l .inv .3));
       biases = omega arith;
     }
 

@@ -2,10 +2,10 @@
 use mathlib.Core.Path.{sym, ap, _∙_}
 use native.Mathlib.Omega.{arith}
 use Rattle.bits.specs.Answers.{toldSigned}
-use Rattle.messages.specs.ReadSteps.{put1230}
+use Rattle.messages.specs.StepsRead.{put1230}
 use Rattle.messages.proofs.ArmLaws.{twos-cut}
 use Rattle.messages.proofs.I16Laws.{bias-narrow}
-use Rattle.messages.proofs.PassLaws.{placed-one, stored-short}
+use Rattle.messages.proofs.PassLaws.{suffices-one, stored-short}
 use Rattle.messages.proofs.StoreLaws.{put1230-none}
 use Rattle.messages.proofs.Read1230Laws.{bias-cut, bias-read, bias-stored}
 use borrow.Author.Needs.{needs}
@@ -21,7 +21,7 @@ returns c =
 slice-write-signals : tie.Need-slice-write-signals
 slice-write-signals c =
     let e = sym (c .before .before .before .read-twos .ensures) ∙ ap toldSigned (c .before .read .given .1) in
-    let h = placed-one (c .before .before .before .before .before .before .pre .placed) (bias-read _ _ _ e) in
+    let h = suffices-one (c .before .before .before .before .before .before .pre .suffices) (bias-read _ _ _ e) in
     omega arith
 
 cast-biases : tie.Need-cast-biases
@@ -32,7 +32,7 @@ cast-biases c =
 slice-set-from-biases : tie.Need-slice-set-from-biases
 slice-set-from-biases c =
     let e = sym (c .before .before .before .read-twos .ensures) ∙ ap toldSigned (c .before .read .given .1) in
-    let h = placed-one (c .before .before .before .before .before .before .pre .placed) (bias-read _ _ _ e) in
+    let h = suffices-one (c .before .before .before .before .before .before .pre .suffices) (bias-read _ _ _ e) in
     omega arith
 
 returns-2 : tie.Need-returns-2

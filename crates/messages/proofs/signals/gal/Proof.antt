@@ -1,7 +1,7 @@
 -- The columns of gal are its table, line by line. Assumes nothing.
 use borrow.Author.Needs.{needs}
 use Rattle.messages.specs.Signals.{gal}
-use Rattle.messages.specs.Columns.{entries}
+use Rattle.messages.specs.StepsColumns.{entries}
 use Rattle.messages.proofs.signals.gal.Statement.{statement}
 use Rattle.messages.proofs.signals.gal.Tie as tie
 

@@ -1,7 +1,7 @@
 -- The columns of glo are its table, line by line. Assumes nothing.
 use borrow.Author.Needs.{needs}
 use Rattle.messages.specs.Signals.{glo}
-use Rattle.messages.specs.Columns.{entries}
+use Rattle.messages.specs.StepsColumns.{entries}
 use Rattle.messages.proofs.signals.glo.Statement.{statement}
 use Rattle.messages.proofs.signals.glo.Tie as tie
 

@@ -1,7 +1,7 @@
 -- The columns of gps are its table, line by line. Assumes nothing.
 use borrow.Author.Needs.{needs}
 use Rattle.messages.specs.Signals.{gps}
-use Rattle.messages.specs.Columns.{entries}
+use Rattle.messages.specs.StepsColumns.{entries}
 use Rattle.messages.proofs.signals.gps.Statement.{statement}
 use Rattle.messages.proofs.signals.gps.Tie as tie
 

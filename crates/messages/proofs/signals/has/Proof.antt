@@ -1,6 +1,6 @@
 -- `messages::signals::has` meets its contract: a number by one test, a signal by another. Assumes nothing.
 use borrow.Author.Needs.{needs}
-use Rattle.messages.specs.Columns.{has}
+use Rattle.messages.specs.StepsColumns.{has}
 use Rattle.messages.proofs.signals.has.Statement.{statement}
 use Rattle.messages.proofs.signals.has.Tie as tie
 

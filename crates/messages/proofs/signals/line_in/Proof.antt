@@ -5,7 +5,7 @@ use Prim.Native.Nat.{_≤_, _-_}
 use native.Mathlib.Omega.{arith}
 use borrow.Author.Needs.{needs}
 use lib.ListN.{length}
-use Rattle.messages.specs.Columns.{entries, lineOf}
+use Rattle.messages.specs.StepsColumns.{entries, lineOf}
 use Rattle.messages.proofs.ColumnLaws.{from, from-start, line-found, line-on, no-line}
 use Rattle.messages.proofs.signals.line_in.Statement.{statement}
 use Rattle.messages.proofs.signals.line_in.Tie as tie

@@ -1,7 +1,7 @@
 -- Each system has its own table, and any other number none. Assumes nothing.
 use borrow.Author.Needs.{needs}
 use Rattle.messages.specs.Signals.{tableOf}
-use Rattle.messages.specs.Columns.{lineOf}
+use Rattle.messages.specs.StepsColumns.{lineOf}
 use Rattle.messages.proofs.ColumnLaws.{no-table}
 use Rattle.messages.proofs.signals.line_of.Statement.{statement}
 use Rattle.messages.proofs.signals.line_of.Tie as tie

@@ -1,7 +1,7 @@
 -- `messages::signals::number_of` meets its contract: the line that has the signal tells its number. Assumes nothing.
 use mathlib.Core.Path.{_∙_, sym, ap}
 use borrow.Author.Needs.{needs}
-use Rattle.messages.specs.Columns.{foundLine, numberAt}
+use Rattle.messages.specs.StepsColumns.{foundLine, numberAt}
 use Rattle.messages.specs.declared.signals.Line.{Line}
 use Rattle.messages.proofs.ColumnLaws.{number-by-line}
 use Rattle.messages.proofs.signals.number_of.Statement.{statement}

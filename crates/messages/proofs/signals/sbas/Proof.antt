@@ -1,7 +1,7 @@
 -- The columns of sbas are its table, line by line. Assumes nothing.
 use borrow.Author.Needs.{needs}
 use Rattle.messages.specs.Signals.{sbas}
-use Rattle.messages.specs.Columns.{entries}
+use Rattle.messages.specs.StepsColumns.{entries}
 use Rattle.messages.proofs.signals.sbas.Statement.{statement}
 use Rattle.messages.proofs.signals.sbas.Tie as tie
 

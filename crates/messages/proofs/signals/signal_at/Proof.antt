@@ -1,7 +1,7 @@
 -- `messages::signals::signal_at` meets its contract: a line has its own band and letter. Assumes nothing.
 use mathlib.Core.Path.{ap, sym}
 use borrow.Author.Needs.{needs}
-use Rattle.messages.specs.Columns.{foundLine, signalAt}
+use Rattle.messages.specs.StepsColumns.{foundLine, signalAt}
 use Rattle.messages.specs.declared.signals.Line.{Line}
 use Rattle.messages.proofs.signals.signal_at.Statement.{statement}
 use Rattle.messages.proofs.signals.signal_at.Tie as tie

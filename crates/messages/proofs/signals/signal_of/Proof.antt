@@ -1,7 +1,7 @@
 -- `messages::signals::signal_of` meets its contract: the line that has the number tells its signal. Assumes nothing.
 use mathlib.Core.Path.{_∙_, sym, ap}
 use borrow.Author.Needs.{needs}
-use Rattle.messages.specs.Columns.{signalAt}
+use Rattle.messages.specs.StepsColumns.{signalAt}
 use Rattle.messages.proofs.ColumnLaws.{signal-by-line}
 use Rattle.messages.proofs.signals.signal_of.Statement.{statement}
 use Rattle.messages.proofs.signals.signal_of.Tie as tie

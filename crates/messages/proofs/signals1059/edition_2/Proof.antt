@@ -1,7 +1,7 @@
 -- The columns of edition 2 are its table, line by line. Assumes nothing.
 use borrow.Author.Needs.{needs}
 use Rattle.messages.specs.Signals1059.{edition2, signals1059}
-use Rattle.messages.specs.Columns.{entries}
+use Rattle.messages.specs.StepsColumns.{entries}
 use Rattle.messages.proofs.signals1059.edition_2.Statement.{statement}
 use Rattle.messages.proofs.signals1059.edition_2.Tie as tie
 

@@ -2,7 +2,7 @@
 use borrow.Author.Needs.{needs}
 use borrow.Author.Tests.{lt-ltb, le-ltb}
 use native.Mathlib.Omega.{arith}
-use Rattle.messages.specs.Columns.{inMask}
+use Rattle.messages.specs.StepsColumns.{inMask}
 use Rattle.messages.proofs.signals1059.in_mask.Statement.{statement}
 use Rattle.messages.proofs.signals1059.in_mask.Tie as tie
 

@@ -1,6 +1,6 @@
 -- Each edition has its own table, and any other number none. Assumes nothing.
 use borrow.Author.Needs.{needs}
-use Rattle.messages.specs.Columns.{lineOf}
+use Rattle.messages.specs.StepsColumns.{lineOf}
 use Rattle.messages.proofs.ColumnLaws.{no-edition}
 use Rattle.messages.proofs.signals1059.line_of_1059.Statement.{statement}
 use Rattle.messages.proofs.signals1059.line_of_1059.Tie as tie

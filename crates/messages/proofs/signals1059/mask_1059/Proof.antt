@@ -1,6 +1,6 @@
 -- `messages::signals1059::mask_1059` meets its contract: the constant of the edition is the mask of its table. Assumes nothing.
 use Rattle.messages.specs.Signals1059.{edition1, edition2, signals1059}
-use Rattle.messages.specs.Columns.{maskOf}
+use Rattle.messages.specs.StepsColumns.{maskOf}
 use Rattle.messages.proofs.ColumnLaws.{no-edition}
 use Rattle.messages.proofs.signals1059.mask_1059.Statement.{statement}
 use Rattle.messages.proofs.signals1059.mask_1059.Tie as tie

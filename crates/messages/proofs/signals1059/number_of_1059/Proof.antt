@@ -3,7 +3,7 @@ use mathlib.Core.Path.{_∙_, sym, ap}
 use borrow.Author.Needs.{needs}
 use borrow.Author.Tests.{not-true, not-false}
 use Rattle.bits.specs.Told.{Accepted}
-use Rattle.messages.specs.Columns.{foundLine, numberAt}
+use Rattle.messages.specs.StepsColumns.{foundLine, numberAt}
 use Rattle.messages.specs.declared.signals.Line.{Line}
 use Rattle.messages.proofs.ColumnLaws.{not-numbered, numbered}
 use Rattle.messages.proofs.signals1059.number_of_1059.Statement.{statement}

@@ -3,7 +3,7 @@ use mathlib.Core.Path.{_∙_, sym, ap}
 use borrow.Author.Needs.{needs}
 use borrow.Author.Tests.{not-true, not-false}
 use Rattle.bits.specs.Told.{Accepted}
-use Rattle.messages.specs.Columns.{foundLine, signalAt}
+use Rattle.messages.specs.StepsColumns.{foundLine, signalAt}
 use Rattle.messages.specs.declared.signals.Line.{Line}
 use Rattle.messages.proofs.ColumnLaws.{not-named, named}
 use Rattle.messages.proofs.signals1059.signal_of_1059.Statement.{statement}

@@ -6,7 +6,7 @@ use native.Mathlib.Nat.{one-mul}
 use native.Mathlib.Omega.{arith}
 use lib.Bits.{bitOr}
 use lib.Pow.{shl-exact}
-use Rattle.messages.specs.Columns.{inMask}
+use Rattle.messages.specs.StepsColumns.{inMask}
 use Rattle.messages.proofs.PairLaws.{one-more-bit}
 use Rattle.messages.proofs.signals1059.with_number.Statement.{statement}
 use Rattle.messages.proofs.signals1059.with_number.Tie as tie

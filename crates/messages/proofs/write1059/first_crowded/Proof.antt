@@ -6,7 +6,7 @@ use lib.ListN.{drop}
 use borrow.Author.Needs.{needs}
 use borrow.Author.Tests.{lt-ltb, le-ltb}
 use Rattle.messages.proofs.CrowdLaws.{over-here, not-here, not-over}
-use Rattle.messages.specs.WriteSteps1059.{crowdedIn}
+use Rattle.messages.specs.StepsWrite1059.{crowdedIn}
 use Rattle.messages.proofs.write1059.first_crowded.Statement.{statement}
 use Rattle.messages.proofs.write1059.first_crowded.Tie as tie
 

@@ -9,7 +9,7 @@ use borrow.Author.Tests.{not-true, not-false}
 use Rattle.bits.specs.Signed.{fitsTwos}
 use Rattle.messages.specs.Records.{records1059}
 use Rattle.messages.specs.Writer.{firstFault}
-use Rattle.messages.specs.WriteSteps1059.{faultBy}
+use Rattle.messages.specs.StepsWrite1059.{faultBy}
 use Rattle.messages.proofs.I16Laws.{same-16}
 use Rattle.messages.proofs.RecordLaws.{from1059}
 use Rattle.messages.proofs.FaultLaws.{is-satellite, is-signal, is-range, is-fine, no-more}

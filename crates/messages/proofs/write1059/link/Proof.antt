@@ -4,7 +4,7 @@ use Prim.Native.Nat.{suc, _-_, _≤_, _<_}
 use native.Mathlib.Omega.{arith}
 use lib.ListN.{length, getD}
 use borrow.Author.Needs.{needs}
-use Rattle.messages.specs.WriteSteps1059.{Linked}
+use Rattle.messages.specs.StepsWrite1059.{Linked}
 use Rattle.messages.proofs.LinkLaws.{count-from, linked-more}
 use Rattle.messages.proofs.write1059.link.Statement.{statement}
 use Rattle.messages.proofs.write1059.link.Tie as tie

@@ -5,7 +5,7 @@ use native.Mathlib.Omega.{arith}
 use lib.ListN.{drop}
 use borrow.Author.Needs.{needs}
 use Rattle.messages.proofs.CrowdLaws.{present-here, present-none}
-use Rattle.messages.specs.WriteSteps1059.{presentIn}
+use Rattle.messages.specs.StepsWrite1059.{presentIn}
 use Rattle.messages.proofs.write1059.present.Statement.{statement}
 use Rattle.messages.proofs.write1059.present.Tie as tie
 

@@ -1,8 +1,8 @@
 -- `messages::write1059::write_known` meets its contract. Each answer is the one that the sizes and the first fault ask for. Assumes nothing.
 use mathlib.Core.Path.{ap, _∙_}
 use borrow.Author.Needs.{needs}
-use Rattle.messages.specs.WriteSteps1059.{toldFault}
-use Rattle.messages.proofs.FaultLaws.{found, sound}
+use Rattle.messages.specs.StepsWrite1059.{toldFault}
+use Rattle.messages.proofs.FaultLaws.{first-fault-is, sound}
 use Rattle.messages.proofs.Write1059Laws.{long-data, uneven-signals, uneven-biases, many-records, some-fault, no-fault}
 use Rattle.messages.proofs.write1059.write_known.Statement.{statement}
 use Rattle.messages.proofs.write1059.write_known.Tie as tie
@@ -30,38 +30,38 @@ returns-4 c =
 enum-told : tie.Need-enum-told
 enum-told c = search needs
 
-write-sound-requires : tie.Need-write-sound-requires
-write-sound-requires c κs =
+write-faultless-requires : tie.Need-write-faultless-requires
+write-faultless-requires c κs =
     let a = c .before .before .before .before .before .before .before .before .before .before .before .before .args in (
       c .before .before .before .before .before .before .before .before .if1 .left,
       sound (a .edition) (a .satellites .now) (a .signals .now) (a .biases .now) (c .before .before .before .before .before .before .before .if2 .left) (c .before .before .before .before .before .before .if3 .left) (c .before .before .before .before .before .if4 .left)
-          (found (a .edition) _ _ _ (c .before .before .before .before .mask-1059 .ensures) (c .before .before .before .first-fault .ensures) ∙ ap toldFault (c .before .enum-told .given .1)),
+          (first-fault-is (a .edition) _ _ _ (c .before .before .before .before .mask-1059 .ensures) (c .before .before .before .first-fault .ensures) ∙ ap toldFault (c .before .enum-told .given .1)),
     )
 
 returns-5 : tie.Need-returns-5
 returns-5 c =
     let a = c .before .before .before .before .before .before .before .before .before .before .before .before .args in
     some-fault (a .edition) (a .bytes .now) (a .start) (a .satellites .now) (a .signals .now) (a .biases .now) (c .before .before .before .before .before .before .before .before .if1 .left) (c .before .before .before .before .before .before .before .if2 .left) (c .before .before .before .before .before .before .if3 .left) (c .before .before .before .before .before .if4 .left)
-    (found (a .edition) _ _ _ (c .before .before .before .before .mask-1059 .ensures) (c .before .before .before .first-fault .ensures) ∙ ap toldFault (c .before .i .given .1))
+    (first-fault-is (a .edition) _ _ _ (c .before .before .before .before .mask-1059 .ensures) (c .before .before .before .first-fault .ensures) ∙ ap toldFault (c .before .i .given .1))
 
 returns-6 : tie.Need-returns-6
 returns-6 c =
     let a = c .before .before .before .before .before .before .before .before .before .before .before .before .args in
     some-fault (a .edition) (a .bytes .now) (a .start) (a .satellites .now) (a .signals .now) (a .biases .now) (c .before .before .before .before .before .before .before .before .if1 .left) (c .before .before .before .before .before .before .before .if2 .left) (c .before .before .before .before .before .before .if3 .left) (c .before .before .before .before .before .if4 .left)
-    (found (a .edition) _ _ _ (c .before .before .before .before .mask-1059 .ensures) (c .before .before .before .first-fault .ensures) ∙ ap toldFault (c .before .i2 .given .1))
+    (first-fault-is (a .edition) _ _ _ (c .before .before .before .before .mask-1059 .ensures) (c .before .before .before .first-fault .ensures) ∙ ap toldFault (c .before .i2 .given .1))
 
 returns-7 : tie.Need-returns-7
 returns-7 c =
     let a = c .before .before .before .before .before .before .before .before .before .before .before .before .args in
     some-fault (a .edition) (a .bytes .now) (a .start) (a .satellites .now) (a .signals .now) (a .biases .now) (c .before .before .before .before .before .before .before .before .if1 .left) (c .before .before .before .before .before .before .before .if2 .left) (c .before .before .before .before .before .before .if3 .left) (c .before .before .before .before .before .if4 .left)
-    (found (a .edition) _ _ _ (c .before .before .before .before .mask-1059 .ensures) (c .before .before .before .first-fault .ensures) ∙ ap toldFault (c .before .i3 .given .1))
+    (first-fault-is (a .edition) _ _ _ (c .before .before .before .before .mask-1059 .ensures) (c .before .before .before .first-fault .ensures) ∙ ap toldFault (c .before .i3 .given .1))
 
 returns-8 : tie.Need-returns-8
 returns-8 c =
     let a = c .before .before .before .before .before .before .before .before .before .before .before .before .before .before .before .args in
-    c .before .before .write-sound .ensures
+    c .before .before .write-faultless .ensures
     ∙ no-fault (a .edition) (a .bytes .now) (a .start) (a .satellites .now) (a .signals .now) (a .biases .now) (c .before .before .before .before .before .before .before .before .before .before .before .if1 .left) (c .before .before .before .before .before .before .before .before .before .before .if2 .left) (c .before .before .before .before .before .before .before .before .before .if3 .left) (c .before .before .before .before .before .before .before .before .if4 .left)
-    (found (a .edition) _ _ _ (c .before .before .before .before .before .before .before .mask-1059 .ensures) (c .before .before .before .before .before .before .first-fault .ensures) ∙ ap toldFault (c .before .before .before .before .enum-told .given .1))
+    (first-fault-is (a .edition) _ _ _ (c .before .before .before .before .before .before .before .mask-1059 .ensures) (c .before .before .before .before .before .before .first-fault .ensures) ∙ ap toldFault (c .before .before .before .before .enum-told .given .1))
 
 pub write-known-spec : {M : Type 1} → statement M
 write-known-spec =
@@ -77,7 +77,7 @@ write-known-spec =
     (λ c. search needs)
     (λ c. search needs)
     enum-told
-    write-sound-requires
+    write-faultless-requires
     returns-5
     returns-6
     returns-7

@@ -40,14 +40,11 @@ element-copy-out-name c = omega arith
 name-requires : tie.Need-name-requires Inv-loop μ-loop
 name-requires c κs = tt
 
-mul-amount : tie.Need-mul-amount Inv-loop μ-loop
-mul-amount c = omega arith
+mul-values : tie.Need-mul-values Inv-loop μ-loop
+mul-values c = omega arith
 
-element-copy-out-amount : tie.Need-element-copy-out-amount Inv-loop μ-loop
-element-copy-out-amount c = omega arith
-
-amount-requires : tie.Need-amount-requires Inv-loop μ-loop
-amount-requires c κs = tt
+element-copy-out-values : tie.Need-element-copy-out-values Inv-loop μ-loop
+element-copy-out-values c = omega arith
 
 values-requires : tie.Need-values-requires Inv-loop μ-loop
 values-requires c κs = tt
@@ -80,9 +77,8 @@ rows-spec =
     signal-of-requires
     element-copy-out-name
     name-requires
-    mul-amount
-    element-copy-out-amount
-    amount-requires
+    mul-values
+    element-copy-out-values
     values-requires
     add-i
     loop-less

@@ -1,4 +1,4 @@
--- `messages::write1059::write_sound` meets its contract. Each answer is the one that the counts ask for. Assumes nothing.
+-- `messages::write1059::write_faultless` meets its contract. Each answer is the one that the counts ask for. Assumes nothing.
 use mathlib.Core.Path.{_≡_, sym, _∙_}
 use mathlib.Core.List.{List, [], _∷_}
 use Prim.Native.Nat.{ℕ, _+_, _*_, _≤_, _<_}
@@ -11,12 +11,12 @@ use Rattle.bits.specs.Fields.{bits, putAll}
 use Rattle.messages.specs.Put.{Fits, Did}
 use Rattle.messages.specs.Records.{Rec1059, records1059}
 use Rattle.messages.specs.Write1059.{satellitesFrom}
-use Rattle.messages.specs.WriteSteps1059.{writeSound}
+use Rattle.messages.specs.StepsWrite1059.{writeFaultless}
 use borrow.Author.Needs.{needs}
 use Rattle.messages.proofs.LinkLaws.{linked-none}
 use Rattle.messages.proofs.Write1059Laws.{sound-crowded, sound-all, sound-repeat, sound-counts, sound-room, sound-first, sound-rest, sound-put}
-use Rattle.messages.proofs.write1059.write_sound.Statement.{statement}
-use Rattle.messages.proofs.write1059.write_sound.Tie as tie
+use Rattle.messages.proofs.write1059.write_faultless.Statement.{statement}
+use Rattle.messages.proofs.write1059.write_faultless.Tie as tie
 
 link-requires : tie.Need-link-requires
 link-requires c κs =
@@ -94,7 +94,7 @@ module _ (c : tie.Else4) (t : List ℕ) (q : ℕ) (d : Did (start c .args .bytes
       (c .before .before .before .before .if2 .left) _ (c .before .before .before .first-repeat .ensures (a .biases .now) (s .pre .1 .biases)) (c .before .before .if3 .left) (s .pre .0) (room c) t q d
 
   written : (u : List ℕ) → u ≡ putAll t q (satellitesFrom 0 64 (records c))
-      → outcome (Accepted (start c .args .start + size c)) u ≡ writeSound (start c .args .bytes .now) (start c .args .start) (records c)
+      → outcome (Accepted (start c .args .start + size c)) u ≡ writeFaultless (start c .args .bytes .now) (start c .args .start) (records c)
   written u e =
       let s = start c in
       let a = s .args in
@@ -114,8 +114,8 @@ add-t24 c = omega (arith, room (c .before .before .before .before .before .befor
 returns-5 : tie.Need-returns-5
 returns-5 c = written (c .before .before .before .before .before .before .before .before .before .before .before) _ _ (c .before .before .before .before .before .before .before .before .before .unsigned .ensures) _ (c .before .before .put-satellites .ensures)
 
-pub write-sound-spec : {M : Type 1} → statement M
-write-sound-spec =
+pub write-faultless-spec : {M : Type 1} → statement M
+write-faultless-spec =
     tie.close
     (tie.spec
     (λ c. search needs)

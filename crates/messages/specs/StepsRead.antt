@@ -15,12 +15,12 @@ module _ {A : Type 0} where
   counts i t = andThen t (λ r. Accepted (counted (i + length (r .value)) (r .next)))
 
   -- the records that are read, none of a refusal
-  unfoldable pub found : Told (Reading (List A)) → List A
-  found (Accepted r) = r .value
-  found (Refused n carried) = []
+  unfoldable pub recordsIn : Told (Reading (List A)) → List A
+  recordsIn (Accepted r) = r .value
+  recordsIn (Refused n carried) = []
 
   -- what the second pass rests on: t is accepted, and n places suffice for its records from place i on
-  pub record Placed (i : ℕ) (t : Told (Reading (List A))) (n : ℕ) : Type 0 where
+  pub record Suffices (i : ℕ) (t : Told (Reading (List A))) (n : ℕ) : Type 0 where
     pub all : Reading (List A)
     pub is : t ≡ Accepted all
     pub room : i + length (all .value) ≤ n
@@ -28,7 +28,7 @@ module _ {A : Type 0} where
   -- the second pass, behind i records, over lent lists into which `put` stores records from a place on: what it answers, and the lists as it leaves them
   pub record Stored {S : Type 0} (put : ℕ → List A → S → S) (i : ℕ) (t : Told (Reading (List A))) (answer : Told Counted) (old new : S) : Type 0 where
     pub says : answer ≡ counts i t
-    pub lists : new ≡ put i (found t) old
+    pub lists : new ≡ put i (recordsIn t) old
 
 -- ---- the lent lists of message 1059
 
@@ -50,7 +50,7 @@ put1059 i rs l =
 -- what the second pass asks: data within their limit, places for the records, lists of one length
 pub record Ready1059 (s : List ℕ) (i : ℕ) (t : Told (Reading (List Rec1059))) (sats gs : List ℕ) (zs : List ℤ) : Type 0 where
   pub few : length s ≤ 1023
-  pub placed : Placed i t (length sats)
+  pub suffices : Suffices i t (length sats)
   pub signals : length gs ≡ length sats
   pub biases : length zs ≡ length sats
 
@@ -72,5 +72,5 @@ put1230 i rs l = lists1230 (sets (l .signals) i (map signalOf1230 rs)) (sets (l 
 -- what the second pass asks: data within their limit, places for the records, lists of one length
 pub record Ready1230 (s : List ℕ) (i : ℕ) (t : Told (Reading (List Rec1230))) (gs : List ℕ) (zs : List ℤ) : Type 0 where
   pub few : length s ≤ 1023
-  pub placed : Placed i t (length gs)
+  pub suffices : Suffices i t (length gs)
   pub biases : length zs ≡ length gs

@@ -9,7 +9,7 @@ use lib.Dec.{eqb, ltb}
 use Rattle.bits.specs.Told.{Told, andThen, satellite, signal, range, tooMany}
 use Rattle.bits.specs.Signed.{fitsTwos}
 use Rattle.bits.specs.Outcome.{Outcome}
-use Rattle.messages.specs.Columns.{inMask}
+use Rattle.messages.specs.StepsColumns.{inMask}
 use Rattle.messages.specs.Writer.{fine, firstRepeat, writeRun}
 use Rattle.messages.specs.Records.{Rec1059, rec1059, records1059}
 use Rattle.messages.specs.Write1059.{crowded, present, samePair, fields1059, refused1059}
@@ -34,7 +34,7 @@ faultBy mask i (rec1059 a g z) =
     fine))
 
 -- lists of the parts of records that have no fault
-pub record Sound (sats gs : List ℕ) (zs : List ℤ) : Type 0 where
+pub record Faultless (sats gs : List ℕ) (zs : List ℤ) : Type 0 where
   pub signals : length sats ≡ length gs
   pub biases : length sats ≡ length zs
   pub few : length sats ≤ 1953
@@ -43,15 +43,15 @@ pub record Sound (sats gs : List ℕ) (zs : List ℤ) : Type 0 where
   pub fits : (i : ℕ) → i < length sats → fitsTwos 14 (getD zs i (pos 0)) ≡ true
 
 -- what is left to refuse of them
-unfoldable pub refusedSound : List Rec1059 → Told Unit
-refusedSound rs =
+unfoldable pub refusedFaultless : List Rec1059 → Told Unit
+refusedFaultless rs =
     andThen (crowded 0 64 rs) (λ u.
     andThen (cond (eqb (present 0 64 rs) 64) (tooMany 64) fine) (λ u.
     firstRepeat samePair 0 [] rs))
 
 -- and the block of them written from bit p on
-unfoldable pub writeSound : List ℕ → ℕ → List Rec1059 → Outcome ℕ (List ℕ)
-writeSound s p rs = writeRun (refusedSound rs) s p (fields1059 rs)
+unfoldable pub writeFaultless : List ℕ → ℕ → List Rec1059 → Outcome ℕ (List ℕ)
+writeFaultless s p rs = writeRun (refusedFaultless rs) s p (fields1059 rs)
 
 -- the call of an edition that there is
 unfoldable pub writeKnown : ℕ → List ℕ → ℕ → List ℕ → List ℕ → List ℤ → Outcome ℕ (List ℕ)
