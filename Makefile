@@ -228,8 +228,11 @@ check-install: $(ARCHIVE) $(SHARED)
 
 # The programs of crates/, where `rt check` or the gate has built them.
 check-programs:
-	@if [ -x target/bin/rtcm_scan ] && [ -x target/bin/rtcm_biases ]; then \
-	    c/test_programs.sh $(CURDIR)/target/bin $(CURDIR)/c/data $(VERSION); \
+	@for program in rtcm_scan rtcm_biases rtcm_observations rtcm_why rtcm_compare; do \
+	    [ -x target/bin/$$program ] || { missing=1; break; }; \
+	done; \
+	if [ -z "$$missing" ]; then \
+	    c/test_programs.sh $(CURDIR)/target/bin $(CURDIR)/c/data $(VERSION) $(CURDIR)/crates; \
 	else \
 	    echo "programs: skipped, since rt check has not built them here"; \
 	fi

@@ -1,7 +1,8 @@
 #!/bin/sh
-# The programs rtcm_scan and rtcm_biases as a user has them: a live stream, an output that cannot be written, options.
+# The programs as a user has them: a live stream, an output that cannot be written, options.
 #
-# Usage: test_programs.sh BIN DATA VERSION   where BIN has the programs, and DATA the recordings
+# Usage: test_programs.sh BIN DATA VERSION CRATES   where BIN has the programs, DATA the recordings, and CRATES what the
+# programs are run on by their own checks
 set -u
 
 # The whole test is bounded: what hangs is ended after two minutes.
@@ -14,6 +15,7 @@ fi
 bin=$1
 data=$2
 version=$3
+crates=$4
 work=$(mktemp -d)
 started=
 passed=0
@@ -68,35 +70,69 @@ slow_pipe() {
     rm "$work/fifo"
 }
 
-# An output that cannot be written ends the program, which says so; its last line tells failure.
+# An output that cannot be written ends the program, which says so; its last line tells failure. The words are what the
+# program is started with.
 no_output() {
-    "$bin/$1" "$2" "$2" >/dev/full 2>"$work/err"
-    check "$1, full output: status" $? 0
-    check "$1, full output: said once" "$(grep -c '^standard output: ' "$work/err")" 1
-    check "$1, full output: last line" "$(last_line)" "$1: failed"
+    program=$1
+    shift
+    "$bin/$program" "$@" >/dev/full 2>"$work/err"
+    check "$program, full output: status" $? 0
+    check "$program, full output: said once" "$(grep -c '^standard output: ' "$work/err")" 1
+    check "$program, full output: last line" "$(last_line)" "$program: failed"
 
-    "$bin/$1" "$2" >&- 2>"$work/err"
-    check "$1, closed output: status" $? 0
-    check "$1, closed output: said" "$(grep -c '^standard output: ' "$work/err")" 1
-    check "$1, closed output: last line" "$(last_line)" "$1: failed"
+    "$bin/$program" "$@" >&- 2>"$work/err"
+    check "$program, closed output: status" $? 0
+    check "$program, closed output: said" "$(grep -c '^standard output: ' "$work/err")" 1
+    check "$program, closed output: last line" "$(last_line)" "$program: failed"
 
     (
         trap '' PIPE
-        { sleep 0.3; "$bin/$1" "$2" 2>"$work/err"; } | true
+        { sleep 0.3; "$bin/$program" "$@" 2>"$work/err"; } | true
     )
-    check "$1, no reader: said" "$(grep -c '^standard output: ' "$work/err")" 1
-    check "$1, no reader: last line" "$(last_line)" "$1: failed"
+    check "$program, no reader: said" "$(grep -c '^standard output: ' "$work/err")" 1
+    check "$program, no reader: last line" "$(last_line)" "$program: failed"
 }
 
-# Options that both programs have.
+# A non-blocking output that takes nothing, since the pipe is full, is said and ends the program.
+choked_output() {
+    program=$1
+    shift
+    mkfifo "$work/fifo"
+    sleep 30 <"$work/fifo" &
+    started=$!
+    {
+        dd oflag=nonblock if=/dev/zero bs=4096 count=512 2>/dev/null
+        "$bin/$program" "$@" 2>"$work/err"
+    } >"$work/fifo"
+    check "$program, choked output: said once" "$(grep -c '^standard output: ' "$work/err")" 1
+    check "$program, choked output: last line" "$(last_line)" "$program: failed"
+    kill "$started"
+    wait "$started" 2>/dev/null
+    started=
+    rm "$work/fifo"
+}
+
+# Options that all programs have. The words are what the program is started with where all is well.
 options() {
-    check "$1 --version" "$("$bin/$1" --version)" "$1 $version"
-    check "$1 -h is --help" "$("$bin/$1" -h)" "$("$bin/$1" --help)"
-    check "$1 --help tells of the status" "$("$bin/$1" --help | grep -c 'exit status is always 0')" 1
-    "$bin/$1" --no-such --nor-this "$2" >"$work/out" 2>"$work/err"
-    check "$1: the first of two wrong options is named" "$(grep -c 'no such option: --no-such ' "$work/err")" 1
-    check "$1: a wrong option is failure" "$(last_line)" "$1: failed"
-    check "$1: nothing is shown then" "$(cat "$work/out")" ""
+    program=$1
+    shift
+    check "$program --version" "$("$bin/$program" --version)" "$program $version"
+    check "$program -h is --help" "$("$bin/$program" -h)" "$("$bin/$program" --help)"
+    check "$program --help tells of the status" "$("$bin/$program" --help | grep -c 'exit status is always 0')" 1
+    "$bin/$program" --no-such --nor-this "$@" >"$work/out" 2>"$work/err"
+    check "$program: the first of two wrong options is named" "$(grep -c 'no such option: --no-such ' "$work/err")" 1
+    check "$program: a wrong option is failure" "$(last_line)" "$program: failed"
+    check "$program: nothing is shown then" "$(cat "$work/out")" ""
+    "$bin/$program" >"$work/out" 2>"$work/err"
+    check "$program: no word is failure" "$(last_line)" "$program: failed"
+    check "$program: nor is anything shown then" "$(cat "$work/out")" ""
+    "$bin/$program" "$@" >"$work/out" 2>"$work/err"
+    check "$program: nothing is said where all is well" "$(cat "$work/err")" ""
+    check "$program: behind -- all is as before" "$("$bin/$program" -- "$@")" "$(cat "$work/out")"
+}
+
+# Programs that go through recordings: a missing one is said and the next is shown; a name behind --.
+recordings() {
     "$bin/$1" "$work/missing" "$2" >"$work/out" 2>"$work/err"
     check "$1: a missing file is named" "$(grep -c "^$work/missing: " "$work/err")" 1
     check "$1: a missing file is failure" "$(last_line)" "$1: failed"
@@ -104,8 +140,45 @@ options() {
     cp "$2" "$work/--quiet"
     (cd "$work" && "$bin/$1" -- --quiet >out 2>err)
     check "$1: a file behind --" "$(head -n 1 "$work/out")" "--quiet"
-    "$bin/$1" "$2" >/dev/null 2>"$work/err"
-    check "$1: nothing is said where all is well" "$(cat "$work/err")" ""
+}
+
+# Programs that take two words and read a file whole.
+two_words() {
+    program=$1
+    shift
+    "$bin/$program" "$1" >"$work/out" 2>"$work/err"
+    check "$program: one word is failure" "$(last_line)" "$program: failed"
+    "$bin/$program" "$@" "$1" >"$work/out" 2>"$work/err"
+    check "$program: three words are failure" "$(last_line)" "$program: failed"
+    for wrong in "$work/missing" "$work" "$work/long"; do
+        "$bin/$program" "$wrong" "$2" >"$work/out" 2>"$work/err"
+        check "$program: $wrong is named" "$(grep -c "^$wrong: " "$work/err")" 1
+        check "$program: $wrong is failure" "$(last_line)" "$program: failed"
+        check "$program: nothing is shown of $wrong" "$(cat "$work/out")" ""
+    done
+    check "$program: standard input" "$("$bin/$program" - "$2" <"$1")" "$("$bin/$program" "$1" "$2")"
+}
+
+# What rtcm_why and rtcm_compare refuse, and what they show.
+refusals() {
+    "$bin/rtcm_why" "$data/rtcm3.bin" 999999 >"$work/out" 2>"$work/err"
+    check "rtcm_why: a place past the end is refused" "$(head -n 1 "$work/err" | cut -c 1-17)" "refused with Size"
+    check "rtcm_why: a refusal is failure" "$(last_line)" "rtcm_why: failed"
+    for word in 1x "" 0x10; do
+        "$bin/rtcm_why" "$data/rtcm3.bin" "$word" >"$work/out" 2>"$work/err"
+        check "rtcm_why: '$word' is no place" "$(last_line)" "rtcm_why: failed"
+        check "rtcm_why: nothing is shown of '$word'" "$(cat "$work/out")" ""
+    done
+    printf 'ab' >"$work/two"
+    "$bin/rtcm_compare" "$work/two" "$data/rtcm3.bin" >"$work/out" 2>"$work/err"
+    check "rtcm_compare: other lengths are refused" "$(head -n 1 "$work/err" | cut -c 1-17)" "refused with Size"
+    check "rtcm_compare: a refusal is failure" "$(last_line)" "rtcm_compare: failed"
+    check "rtcm_compare: equal files" "$("$bin/rtcm_compare" "$work/two" "$work/two")" "equal, 2 bytes"
+    head -c 65536 /dev/zero >"$work/zeros"
+    head -c 65536 /dev/zero | tr '\000' '\253' >"$work/others"
+    "$bin/rtcm_compare" "$work/zeros" "$work/others" >"$work/out" 2>"$work/err"
+    check "rtcm_compare: long rows are whole" "$(wc -c <"$work/out" | tr -d ' ')" 393275
+    check "rtcm_compare: nothing is said of long rows" "$(cat "$work/err")" ""
 }
 
 warnings() {
@@ -128,12 +201,36 @@ warnings() {
     check "no such message" "$("$bin/rtcm_biases" "$data/rtcm3.bin" | grep -c '^  no message 1059 or 1230 in 2 frames$')" 1
 }
 
+observations=$crates/rtcm_observations/data/observations.bin
+sent=$crates/rtcm_compare/data/sent.bin
+received=$crates/rtcm_compare/data/received.bin
+head -c 65537 /dev/zero >"$work/long"
+
 slow_pipe rtcm_scan "$data/rtcm3.bin" 46 ' 1029$'
 slow_pipe rtcm_biases "$data/rtcm3.bndm.bin" 1300 'message 1230 at byte 1145'
-no_output rtcm_scan "$data/rtcm3-3.bin"
-no_output rtcm_biases "$data/rtcm3.bndm.bin"
+slow_pipe rtcm_observations "$observations" 43 'message 1001 at byte 0'
+no_output rtcm_scan "$data/rtcm3-3.bin" "$data/rtcm3-3.bin"
+no_output rtcm_biases "$data/rtcm3.bndm.bin" "$data/rtcm3.bndm.bin"
+no_output rtcm_observations "$observations" "$observations"
+no_output rtcm_why "$data/rtcm3.bin" 0
+no_output rtcm_compare "$sent" "$received"
+choked_output rtcm_scan "$data/rtcm3-3.bin" "$data/rtcm3-3.bin"
+choked_output rtcm_biases "$data/rtcm3.bndm.bin" "$data/rtcm3.bndm.bin"
+choked_output rtcm_observations "$observations" "$observations"
+choked_output rtcm_why "$data/rtcm3.bin" 0
+choked_output rtcm_compare "$sent" "$received"
 options rtcm_scan "$data/rtcm3-3.bin"
 options rtcm_biases "$data/rtcm3.bndm.bin"
+options rtcm_observations "$observations"
+options rtcm_why "$data/rtcm3.bin" 0
+options rtcm_compare "$sent" "$received"
+recordings rtcm_scan "$data/rtcm3-3.bin"
+recordings rtcm_biases "$data/rtcm3.bndm.bin"
+recordings rtcm_observations "$observations"
+two_words rtcm_why "$data/rtcm3.bin" 0
+two_words rtcm_compare "$sent" "$received"
+refusals
+no_output rtcm_compare "$work/zeros" "$work/others"
 warnings
 
 echo "programs: $passed checks, $failed failed"

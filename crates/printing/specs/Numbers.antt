@@ -2,7 +2,7 @@
 use mathlib.Core.Path.{_≡_}
 use mathlib.Core.Bool.{Bool, true, false}
 use mathlib.Core.List.{List, [], _∷_}
-use Prim.Native.Nat.{ℕ, suc, _-_, _/_}
+use Prim.Native.Nat.{ℕ, suc, _-_, _/_, min, max}
 use lib.ListN.{length}
 use lib.IntN.{ℤ, pos, negsuc}
 use Rattle.io.specs.Digits.{digits, Fewest}
@@ -36,3 +36,7 @@ abbrev pub Hundredths : Amount → ℕ → Gathered → Gathered → Type 0
 Hundredths a width g h =
     (k : Gathered) × Signed (record { negative = a .negative; size = a .size / 100 }) (width - 3) g k
     × (h ≡ add (digits 10 2 (a .size)) (add (46 ∷ []) k))
+
+-- a number in hexadecimal digits, as few as hold it, and at least as many as the width, of 1 to 16
+abbrev pub Hex : ℕ → ℕ → Gathered → Gathered → Type 0
+Hex n width g h = (k : ℕ) × Fewest 16 (min (max width 1) 16) n k × (h ≡ add (digits 16 k n) g)

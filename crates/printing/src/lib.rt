@@ -14,6 +14,7 @@ mod number;
 use libc::STDOUT_FILENO;
 pub use number::Amount;
 pub use number::amount_of;
+pub use number::hex;
 pub use number::hundredths;
 pub use number::phrase;
 pub use number::signed;

@@ -4,7 +4,7 @@ ghost use mathlib.Core.Bool.{false};
 ghost use Prim.Native.Nat.{_-_};
 ghost use Rattle.io.specs.Digits.{digits};
 ghost use Rattle.printing.specs.Gathered.{gathered, add};
-ghost use Rattle.printing.specs.Numbers.{amountOf, addSign, Signed, Phrase, Hundredths};
+ghost use Rattle.printing.specs.Numbers.{amountOf, addSign, Signed, Phrase, Hundredths, Hex};
 use crate::blanks;
 use crate::text;
 
@@ -83,6 +83,15 @@ pub fn hundredths(out: &mut [u8; 65536], at: &mut usize, amount: Amount, width: 
     signed(out, at, whole, less(width, 3));
     text(out, at, b".");
     two_digits(out, at, size);
+}
+
+// Adds the number in hexadecimal digits, with zeros before it up to the width, of 1 to 16.
+pub fn hex(out: &mut [u8; 65536], at: &mut usize, n: u64, width: usize)
+    ensures { λ _. ⌜ Hex n width (gathered (now (out .entry)) (now (at .entry))) (gathered (now (out .exit)) (now (at .exit))) ⌝ }
+{
+    let mut digits = [0u8; 16];
+    let k = io::hex(n, width, &mut digits);
+    text(out, at, &digits[..k]);
 }
 
 // Adds n blanks, of which the last gives way to a minus sign if there is one.

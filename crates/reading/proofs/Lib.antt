@@ -2,3 +2,4 @@ pub mod SumLaws
 pub mod AccountLaws
 pub mod NumberLaws
 pub mod ArgumentLaws
+pub mod AskedLaws

@@ -1,3 +1,5 @@
 pub mod Account
 pub mod Arguments
 pub mod Number
+pub mod Asked
+pub mod Load

@@ -95,6 +95,15 @@ pub fn no_file(program: &[u8])
     say(program, b" --help says more\n");
 }
 
+// Says that the words behind the options are not those that the program takes.
+pub fn misnamed(program: &[u8], wanted: &[u8])
+    ensures { λ r. ⌜ r ≡ tt ⌝ }
+{
+    say(program, b": name ");
+    say(wanted, b"; ");
+    say(program, b" --help says more\n");
+}
+
 // Says so if nothing was there to read.
 pub fn empty(name: &[u8], account: Account)
     ensures { λ r. ⌜ r ≡ tt ⌝ }
@@ -115,8 +124,25 @@ pub fn failed(program: &[u8])
 pub fn version(program: &[u8])
     ensures { λ r. ⌜ r ≡ tt ⌝ }
 {
-    io::write_all(STDOUT_FILENO, program);
-    io::write_all(STDOUT_FILENO, b" 0.2.0\n");
+    if io::write_all(STDOUT_FILENO, program) {
+        tell(program, b" 0.2.0\n");
+        return;
+    }
+    unwritten(program);
+}
+
+// Writes what the program tells of itself. Where it cannot be written, that is said, and the program failed.
+pub fn tell(program: &[u8], words: &[u8])
+    ensures { λ r. ⌜ r ≡ tt ⌝ }
+{
+    if !io::write_all(STDOUT_FILENO, words) {
+        unwritten(program);
+    }
+}
+
+fn unwritten(program: &[u8]) {
+    os::fail(b"standard output");
+    failed(program);
 }
 
 fn say(name: &[u8], words: &[u8]) {

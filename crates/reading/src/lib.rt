@@ -9,6 +9,8 @@ use frames::scanner::Fed;
 use std::num;
 
 pub mod arguments;
+pub mod asked;
+pub mod load;
 mod number;
 
 pub use number::frame_of;

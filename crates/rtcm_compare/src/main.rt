@@ -2,86 +2,151 @@
 use damage::compare;
 use damage::compare::Compared;
 use libc::STDERR_FILENO;
-use libc::STDOUT_FILENO;
+use printing::phrase;
+use printing::text;
+use reading::arguments;
+use reading::asked;
+use reading::asked::Asked;
+use reading::load;
+use reading::load::Loaded;
 
 fn main() {
-    if os::arg_count() != 3 {
-        io::write_all(
-            STDERR_FILENO,
-            b"rtcm_compare SENT RECEIVED: name two files, of which up to 65,536 bytes are compared\n",
-        );
+    let asked = asked::all();
+    if asked.help {
+        help();
         return;
     }
-    let fd = open(1);
-    if fd < 0 {
+    if asked.version {
+        arguments::version(b"rtcm_compare");
         return;
     }
+    if !answered(asked) {
+        arguments::failed(b"rtcm_compare");
+    }
+}
+
+fn help() {
+    arguments::tell(
+        b"rtcm_compare",
+        b"rtcm_compare [--] SENT RECEIVED
+
+Compares two files of the same length, at most 65,536 bytes (- is standard input), and shows the bytes
+from the first to the last that differs, as they were sent and as they were received.
+
+  --           each word behind it names a file
+  --version    the version
+  -h, --help   this text
+
+The exit status is always 0. If something failed, the last line on standard error is
+\"rtcm_compare: failed\".
+",
+    );
+}
+
+// Compares what the arguments name, and tells whether that went well.
+fn answered(asked: Asked) -> bool {
+    if asked.unknown != 0 {
+        arguments::unknown(b"rtcm_compare", asked.unknown);
+        return false;
+    }
+    if asked.second == 0 {
+        return misnamed();
+    }
+    if asked.third != 0 {
+        return misnamed();
+    }
+    compare_files(asked.first, asked.second, asked.rest)
+}
+
+fn misnamed() -> bool {
+    arguments::misnamed(b"rtcm_compare", b"what was sent and what was received");
+    false
+}
+
+fn compare_files(first: usize, second: usize, rest: usize) -> bool {
     let mut sent = io::large_buffer();
-    let n = io::read_full(fd, &mut sent);
-    libc::close(fd);
-    compare_with(&sent[..n]);
-}
-
-// Opens the file that argument i names, and says so where that fails.
-fn open(i: usize) -> i32 {
-    let mut path = io::buffer();
-    let n = os::arg(i, &mut path);
-    let fd = os::open_read(&path[..n]);
-    if fd < 0 {
-        os::fail(&path[..n]);
-    }
-    fd
-}
-
-// Compares what was sent with the file of the second argument.
-fn compare_with(sent: &[u8]) {
-    let fd = open(2);
-    if fd < 0 {
-        return;
-    }
     let mut received = io::large_buffer();
-    let n = io::read_full(fd, &mut received);
-    libc::close(fd);
-    show(sent, &received[..n]);
+    let Loaded::Bytes(n) = load::load(first, rest, &mut sent) else {
+        return false;
+    };
+    let Loaded::Bytes(m) = load::load(second, rest, &mut received) else {
+        return false;
+    };
+    show_first(&sent, n, &received, m)
 }
 
-fn show(sent: &[u8], received: &[u8]) {
+// Compares the first n bytes with the first m.
+fn show_first(sent: &[u8; 65536], n: usize, received: &[u8; 65536], m: usize) -> bool {
+    show(reading::frame_of(sent, n), reading::frame_of(received, m))
+}
+
+// Writes where they differ, and tells whether it could be written.
+fn show(sent: &[u8], received: &[u8]) -> bool {
     match compare::compare(sent, received) {
-        Compared::Size => lengths(sent.len(), received.len()),
-        Compared::Differs { start, count } => {
-            if count == 0 {
-                phrase(b"equal, ", sent.len(), b" bytes\n");
-                return;
-            }
-            phrase(b"from byte ", start, b" on, ");
-            phrase(b"", count, b" of ");
-            phrase(b"", sent.len(), b" bytes\n");
-            row(b"  sent    ", compare::differing(received, sent));
-            row(b"  received", compare::differing(sent, received));
-        }
+        Compared::Size => refused(),
+        Compared::Differs { start, count } => show_part(sent, received, start, count),
     }
 }
 
-fn lengths(sent: usize, received: usize) {
-    phrase(b"not comparable: sent ", sent, b" bytes, ");
-    phrase(b"received ", received, b" bytes\n");
+fn refused() -> bool {
+    io::write_all(
+        STDERR_FILENO,
+        b"refused with Size: what was sent and what was received are not of the same length\n",
+    );
+    false
 }
 
-// A line of bytes in hexadecimal digits.
-fn row(words: &[u8], part: &[u8]) {
-    io::write_all(STDOUT_FILENO, words);
+fn show_part(sent: &[u8], received: &[u8], start: usize, count: usize) -> bool {
+    let mut out = io::large_buffer();
+    let mut at: usize = 0;
+    if count == 0 {
+        told(b"equal, ", sent.len(), b" bytes\n", &mut out, &mut at);
+        return printing::flush(&out, &mut at);
+    }
+    told(b"from byte ", start, b" on, ", &mut out, &mut at);
+    told(b"", count, b" of ", &mut out, &mut at);
+    told(b"", sent.len(), b" bytes\n", &mut out, &mut at);
+    if !row(
+        b"  sent    ",
+        compare::differing(received, sent),
+        &mut out,
+        &mut at,
+    ) {
+        return false;
+    }
+    row(
+        b"  received",
+        compare::differing(sent, received),
+        &mut out,
+        &mut at,
+    )
+}
+
+fn told(before: &[u8], n: usize, behind: &[u8], out: &mut [u8; 65536], at: &mut usize) {
+    phrase(out, at, before, n as u64, 0, behind);
+}
+
+// Writes a line of bytes in hexadecimal digits, and tells whether it could be written.
+fn row(words: &[u8], part: &[u8], out: &mut [u8; 65536], at: &mut usize) -> bool {
+    text(out, at, words);
     let n = part.len();
     for i in 0..n {
-        io::write_all(STDOUT_FILENO, b" ");
-        io::print_hex(STDOUT_FILENO, wide(part[i]), 2);
+        text(out, at, b" ");
+        printing::hex(out, at, wide(part[i]), 2);
+        if !has_space(out, at) {
+            return false;
+        }
     }
-    io::write_all(STDOUT_FILENO, b"\n");
+    text(out, at, b"\n");
+    printing::flush(out, at)
 }
 
-fn phrase(before: &[u8], n: usize, behind: &[u8]) {
-    io::write_all(STDOUT_FILENO, before);
-    io::print_decimal(STDOUT_FILENO, n as u64);
-    io::write_all(STDOUT_FILENO, behind);
+// Writes what waits where it is near the end of the area, and tells whether it could be written.
+fn has_space(out: &[u8; 65536], at: &mut usize) -> bool {
+    if *at < 65_000 {
+        return true;
+    }
+    printing::flush(out, at)
 }
 
 fn wide(x: u8) -> u64 {

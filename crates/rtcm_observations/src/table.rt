@@ -10,6 +10,19 @@ use printing::unsigned;
 use reading::Account;
 use std::num;
 
+// How many messages were read, and how many were refused.
+pub struct Tally {
+    pub read: u64,
+    pub refused: u64,
+}
+
+pub fn none() -> Tally {
+    Tally {
+        read: 0,
+        refused: 0,
+    }
+}
+
 // Before the first piece: the name.
 pub fn opening(name: &[u8], account: Account, out: &mut [u8; 65536], at: &mut usize) {
     if account.bytes != 0 {
@@ -20,7 +33,13 @@ pub fn opening(name: &[u8], account: Account, out: &mut [u8; 65536], at: &mut us
 }
 
 // The message of the data.
-pub fn message(data: &[u8], place: u64, out: &mut [u8; 65536], at: &mut usize) {
+pub fn message(
+    data: &[u8],
+    place: u64,
+    tally: Tally,
+    out: &mut [u8; 65536],
+    at: &mut usize,
+) -> Tally {
     let mut satellites = [0u8; 31];
     let mut codes = [0u8; 31];
     let mut pseudoranges = [0u32; 31];
@@ -46,6 +65,56 @@ pub fn message(data: &[u8], place: u64, out: &mut [u8; 65536], at: &mut usize) {
         out,
         at,
     );
+    counted(answer, tally)
+}
+
+// One message more.
+fn counted(answer: MessageRead, tally: Tally) -> Tally {
+    match answer {
+        MessageRead::Observations {
+            header: _,
+            count: _,
+            end: _,
+        } => Tally {
+            read: num::wrapping_add_u64(tally.read, 1),
+            refused: tally.refused,
+        },
+        _ => Tally {
+            read: tally.read,
+            refused: num::wrapping_add_u64(tally.refused, 1),
+        },
+    }
+}
+
+// Behind the last message, if anything was read: how many were read and refused, or why there is none.
+pub fn closing(account: Account, tally: Tally, out: &mut [u8; 65536], at: &mut usize) {
+    if account.bytes == 0 {
+        return;
+    }
+    if account.frames == 0 {
+        text(out, at, b"  no frames\n\n");
+        return;
+    }
+    if is_none(tally) {
+        phrase(
+            out,
+            at,
+            b"  no message 1001 in ",
+            account.frames,
+            0,
+            b" frames\n\n",
+        );
+        return;
+    }
+    phrase(out, at, b"  ", tally.read, 0, b" messages read, ");
+    phrase(out, at, b"", tally.refused, 0, b" refused\n\n");
+}
+
+fn is_none(tally: Tally) -> bool {
+    if tally.read != 0 {
+        return false;
+    }
+    tally.refused == 0
 }
 
 // The head of a message: its header, or why it is refused. Answers how many rows follow.

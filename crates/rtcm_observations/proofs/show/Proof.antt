@@ -5,16 +5,19 @@ use Rattle.rtcm_observations.proofs.show.Statement.{statement}
 use Rattle.rtcm_observations.proofs.show.Tie as tie
 
 abbrev Inv-loop : tie.InvT-loop
-Inv-loop fd name out₀ at₀ held₀ piece₀ bytes₀ account₀ turns₀ out at held piece bytes account turns = Unit {0}
+Inv-loop fd name out₀ at₀ held₀ piece₀ bytes₀ account₀ tally₀ turns₀ out at held piece bytes account tally turns = Unit {0}
 
 abbrev μ-loop : tie.MeasureT-loop
-μ-loop fd name out₀ at₀ held₀ piece₀ bytes₀ account₀ turns₀ out at held piece bytes account turns = turns
+μ-loop fd name out₀ at₀ held₀ piece₀ bytes₀ account₀ tally₀ turns₀ out at held piece bytes account tally turns = turns
 
 large-buffer-requires : tie.Need-large-buffer-requires Inv-loop μ-loop
 large-buffer-requires c κs = tt
 
 start-requires : tie.Need-start-requires Inv-loop μ-loop
 start-requires c κs = tt
+
+none-requires : tie.Need-none-requires Inv-loop μ-loop
+none-requires c κs = tt
 
 loop-holds : tie.Need-loop-holds Inv-loop μ-loop
 loop-holds c = tt
@@ -30,6 +33,12 @@ enum-known-place c = search needs
 
 show-frame-requires : tie.Need-show-frame-requires Inv-loop μ-loop
 show-frame-requires c κs = tt
+
+flush-requires : tie.Need-flush-requires Inv-loop μ-loop
+flush-requires c κs = tt
+
+returns : tie.Need-returns Inv-loop μ-loop
+returns c = tt
 
 loop-less : tie.Need-loop-less Inv-loop μ-loop
 loop-less c = omega arith
@@ -55,20 +64,26 @@ enum-known-a-2 c = search needs
 empty-requires : tie.Need-empty-requires Inv-loop μ-loop
 empty-requires c κs = tt
 
-returns : tie.Need-returns Inv-loop μ-loop
-returns c = tt
-
-enum-told : tie.Need-enum-told Inv-loop μ-loop
-enum-told c = search needs
-
-fail-requires : tie.Need-fail-requires Inv-loop μ-loop
-fail-requires c κs = tt
+closing-requires : tie.Need-closing-requires Inv-loop μ-loop
+closing-requires c κs = tt
 
 returns-2 : tie.Need-returns-2 Inv-loop μ-loop
 returns-2 c = tt
 
+enum-known-a-3 : tie.Need-enum-known-a-3 Inv-loop μ-loop
+enum-known-a-3 c = search needs
+
+fail-requires : tie.Need-fail-requires Inv-loop μ-loop
+fail-requires c κs = tt
+
+closing-requires-2 : tie.Need-closing-requires-2 Inv-loop μ-loop
+closing-requires-2 c κs = tt
+
 returns-3 : tie.Need-returns-3 Inv-loop μ-loop
 returns-3 c = tt
+
+returns-4 : tie.Need-returns-4 Inv-loop μ-loop
+returns-4 c = tt
 
 pub show-spec : {M : Type 1} → statement M
 show-spec =
@@ -78,11 +93,14 @@ show-spec =
     μ-loop
     large-buffer-requires
     start-requires
+    none-requires
     loop-holds
     sub-turns
     next-requires
     enum-known-place
     show-frame-requires
+    flush-requires
+    returns
     loop-less
     loop-again
     enum-known-a
@@ -91,8 +109,10 @@ show-spec =
     loop-again-2
     enum-known-a-2
     empty-requires
-    returns
-    enum-told
-    fail-requires
+    closing-requires
     returns-2
-    returns-3)
+    enum-known-a-3
+    fail-requires
+    closing-requires-2
+    returns-3
+    returns-4)

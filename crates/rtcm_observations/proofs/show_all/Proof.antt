@@ -1,23 +1,39 @@
 -- The measure is the number of arguments that are left. Assumes nothing.
 use Prim.Native.Nat.{_-_}
 use native.Mathlib.Omega.{arith}
+use borrow.Author.Needs.{needs}
 use Rattle.rtcm_observations.proofs.show_all.Statement.{statement}
 use Rattle.rtcm_observations.proofs.show_all.Tie as tie
 
 abbrev Inv-loop : tie.InvT-loop
-Inv-loop count out₀ at₀ i₀ out at i = Unit {0}
+Inv-loop rest out₀ at₀ is-well₀ count i₀ out at is-well i = Unit {0}
 
 abbrev μ-loop : tie.MeasureT-loop
-μ-loop count out₀ at₀ i₀ out at i = count - i
+μ-loop rest out₀ at₀ is-well₀ count i₀ out at is-well i = count - i
 
 large-buffer-requires : tie.Need-large-buffer-requires Inv-loop μ-loop
 large-buffer-requires c κs = tt
+
+arg-count-requires : tie.Need-arg-count-requires Inv-loop μ-loop
+arg-count-requires c κs = tt
 
 loop-holds : tie.Need-loop-holds Inv-loop μ-loop
 loop-holds c = tt
 
 show-argument-requires : tie.Need-show-argument-requires Inv-loop μ-loop
 show-argument-requires c κs = tt
+
+enum-told : tie.Need-enum-told Inv-loop μ-loop
+enum-told c = search needs
+
+enum-told-2 : tie.Need-enum-told-2 Inv-loop μ-loop
+enum-told-2 c = search needs
+
+enum-told-3 : tie.Need-enum-told-3 Inv-loop μ-loop
+enum-told-3 c = search needs
+
+returns : tie.Need-returns Inv-loop μ-loop
+returns c = tt
 
 add-i : tie.Need-add-i Inv-loop μ-loop
 add-i c = omega arith
@@ -28,8 +44,8 @@ loop-less c = omega arith
 loop-again : tie.Need-loop-again Inv-loop μ-loop
 loop-again c = tt
 
-returns : tie.Need-returns Inv-loop μ-loop
-returns c = tt
+returns-2 : tie.Need-returns-2 Inv-loop μ-loop
+returns-2 c = tt
 
 pub show-all-spec : {M : Type 1} → statement M
 show-all-spec =
@@ -38,9 +54,14 @@ show-all-spec =
     Inv-loop
     μ-loop
     large-buffer-requires
+    arg-count-requires
     loop-holds
     show-argument-requires
+    enum-told
+    enum-told-2
+    enum-told-3
+    returns
     add-i
     loop-less
     loop-again
-    returns)
+    returns-2)
