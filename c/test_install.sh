@@ -1,7 +1,7 @@
 #!/bin/sh
 # Builds the example program against an installed library, by the archive and by the shared object, and runs it.
 #
-# Usage: SONAME=.. VERSION=.. test_install.sh PREFIX EXAMPLE RECORDING FRAMES
+# Usage: SONAME=.. VERSION=.. [EMULATOR=..] test_install.sh PREFIX EXAMPLE RECORDING FRAMES
 set -u
 
 prefix=$1
@@ -34,9 +34,17 @@ ${CC:-cc} -std=c11 -Wall -Wextra -Wpedantic -Werror "$example" $flags -Wl,-rpath
 check "status of building against the shared object" $? 0
 ${CC:-cc} -std=c11 "$example" -I"$prefix/include" "$prefix/lib/libpeerivolt.a" -o "$work/static"
 check "status of building against the archive" $? 0
-check "frames by the shared object" "$("$work/shared" <"$recording" | wc -l)" "$frames"
-check "frames by the archive" "$("$work/static" <"$recording" | wc -l)" "$frames"
-check "the shared object is what is used" "$(ldd "$work/shared" | grep -c "$prefix/lib/$SONAME")" 1
+
+frames_of() { # PROGRAM; EMULATOR is a list of words
+    # shellcheck disable=SC2086
+    ${EMULATOR:-} "$work/$1" <"$recording" 2>/dev/null | wc -l
+}
+
+check "frames by the shared object" "$(frames_of shared)" "$frames"
+check "frames by the archive" "$(frames_of static)" "$frames"
+mv "$prefix/lib/$SONAME" "$prefix/lib/$SONAME.away"
+check "frames without the shared object" "$(frames_of shared)" 0
+mv "$prefix/lib/$SONAME.away" "$prefix/lib/$SONAME"
 check "the version of the pkg-config file" "$(sed -n 's/^Version: //p' "$prefix/lib/pkgconfig/peerivolt.pc")" "$VERSION"
 
 echo "install: 7 checks, $failed failed"
