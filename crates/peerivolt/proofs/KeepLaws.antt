@@ -32,8 +32,13 @@ use Rattle.observations.specs.Lists.{Lists}
 use Rattle.observations.specs.Read1001.{read1001}
 use Rattle.observations.specs.Write1001.{write1001}
 use Rattle.observations.proofs.ToldLaws as m1001
+use Rattle.whole.specs.declared.answer.Header1059.{Header1059}
+use Rattle.whole.specs.declared.answer.Header1230.{Header1230}
+use Rattle.whole.specs.Messages.{readMessage1059, writeMessage1059, readMessage1230, writeMessage1230}
+use Rattle.whole.proofs.KeepLaws.{refused-read-message-1059, refused-read-message-1230, refused-write-message-1059, refused-write-message-1230}
 use Rattle.peerivolt.specs.Extra.{inNumbers, Returned, returned, ifSized, answered}
 use Rattle.peerivolt.specs.Fields.{endValues}
+use Rattle.peerivolt.specs.Messages.{message1059Values, message1230Values}
 use Rattle.peerivolt.specs.Scanner.{scannerOf, fedValues, feeds}
 use Rattle.peerivolt.specs.Biases.{countedValues}
 use Rattle.peerivolt.specs.Settings.{foundValues, readsSettings}
@@ -110,3 +115,21 @@ keeps-pv-1059-write edition s p sats gs zs e = answered-keeps s endValues e (wri
 
 pub keeps-pv-1230-write : (s : List ℕ) (p : ℕ) (gs : List ℕ) (zs : List ℤ) (e : List ℕ) → RefusedKeeps s (answered endValues e s (write1230 s p gs zs))
 keeps-pv-1230-write s p gs zs e = answered-keeps s endValues e (write1230 s p gs zs) (refused-write-1230 s p gs zs)
+
+-- ---- whole messages
+
+pub keeps-pv-1059-message-read : (s sats gs : List ℕ) (zs : List ℤ) (e : List ℕ)
+    → RefusedKeeps (sats, gs, zs) (answered message1059Values e (sats, gs, zs) (readMessage1059 s sats gs zs))
+keeps-pv-1059-message-read s sats gs zs e =
+    answered-keeps (sats, gs, zs) message1059Values e (readMessage1059 s sats gs zs) (refused-read-message-1059 s sats gs zs)
+
+pub keeps-pv-1230-message-read : (s gs : List ℕ) (zs : List ℤ) (e : List ℕ) → RefusedKeeps (gs, zs) (answered message1230Values e (gs, zs) (readMessage1230 s gs zs))
+keeps-pv-1230-message-read s gs zs e = answered-keeps (gs, zs) message1230Values e (readMessage1230 s gs zs) (refused-read-message-1230 s gs zs)
+
+pub keeps-pv-1059-message-write : (edition : ℕ) (s : List ℕ) (h : Header1059) (sats gs : List ℕ) (zs : List ℤ) (e : List ℕ)
+    → RefusedKeeps s (answered endValues e s (writeMessage1059 edition s h sats gs zs))
+keeps-pv-1059-message-write edition s h sats gs zs e =
+    answered-keeps s endValues e (writeMessage1059 edition s h sats gs zs) (refused-write-message-1059 edition s h sats gs zs)
+
+pub keeps-pv-1230-message-write : (s : List ℕ) (h : Header1230) (gs : List ℕ) (zs : List ℤ) (e : List ℕ) → RefusedKeeps s (answered endValues e s (writeMessage1230 s h gs zs))
+keeps-pv-1230-message-write s h gs zs e = answered-keeps s endValues e (writeMessage1230 s h gs zs) (refused-write-message-1230 s h gs zs)

@@ -7,3 +7,9 @@ pub mod Read1059Laws
 pub mod Read1230Laws
 pub mod Write1059Laws
 pub mod Write1230Laws
+pub mod BesideLaws
+pub mod CallLaws
+pub mod KeepLaws
+pub mod OnlyLaws
+pub mod Calls1059
+pub mod Calls1230

@@ -73,7 +73,7 @@ module _ (e : ℕ) (s : List ℕ) (h : Header1059) (sats gs : List ℕ) (zs : Li
 
             module _ (k5 : headerFits1059 h ≡ true) where
               -- the block is written, or refused
-              goes-on : {t : Told ℕ} {u : List ℕ} → outcome t u ≡ write1059 e s 61 sats gs zs → before 61 (fields1059 h) t u ≡ call
+              pub goes-on : {t : Told ℕ} {u : List ℕ} → outcome t u ≡ write1059 e s 61 sats gs zs → before 61 (fields1059 h) t u ≡ call
               unfolding writeMessage1059 refused1059
               goes-on o = rw (k0, le-ltb 1023 (length s) k1, eq-eqb (length sats) (length gs) k2, eq-eqb (length sats) (length zs) k3, le-ltb 1953 (length sats) k4, k5) (ap (fronted 61 (fields1059 h)) o)
 

@@ -62,7 +62,7 @@ module _ (s : List ℕ) (h : Header1230) (gs : List ℕ) (zs : List ℤ) where
 
         module _ (k3 : headerFits1230 h ≡ true) where
           -- the block is written, or refused
-          goes-on : {t : Told ℕ} {u : List ℕ} → outcome t u ≡ write1230 s 28 gs zs → before 28 (fields1230 h) t u ≡ call
+          pub goes-on : {t : Told ℕ} {u : List ℕ} → outcome t u ≡ write1230 s 28 gs zs → before 28 (fields1230 h) t u ≡ call
           unfolding writeMessage1230 refused1230
           goes-on o = rw (le-ltb 1023 (length s) k0, eq-eqb (length gs) (length zs) k1, le-ltb 4 (length gs) k2, k3) (ap (fronted 28 (fields1230 h)) o)
 
