@@ -1,4 +1,5 @@
 // Shows the biases of recordings: each message 1059 and 1230 as a table.
+mod found;
 mod options;
 mod table;
 
@@ -166,7 +167,7 @@ fn show_frame(
     let frame = reading::frame_of(bytes, length);
     let number = reading::number_of(frame);
     if number == 1059 {
-        return table::block(
+        return table::message(
             number,
             frame::data_of(frame),
             place,
@@ -178,7 +179,7 @@ fn show_frame(
         );
     }
     if number == 1230 {
-        return table::block(
+        return table::message(
             number,
             frame::data_of(frame),
             place,

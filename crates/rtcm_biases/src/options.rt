@@ -274,12 +274,15 @@ pub fn help() {
         b"rtcm_biases [--start N] [--start-1059 N] [--start-1230 N] [--edition N] [--] FILE..
 
 Shows the biases in the RTCM 3 messages 1059 (GPS) and 1230 (GLONASS) of each file (- is standard
-input): a table for each message, with the raw numbers and the metres that they stand for.
+input): a table for each message, with the raw numbers and the metres that they stand for, below
+what its header tells: of 1059 provider, solution, IOD, epoch, update interval and multiple message
+flag, of 1230 station, indicator and reserved bits.
 A signal number that is reserved stands in brackets. A table is shown when its frame has arrived.
 
   --start-1059 N  in the files behind it 1059 blocks start at data bit N, and not at 61
   --start-1230 N  in the files behind it 1230 blocks start at data bit N, and not at 28
   --start N       both
+                  of a block that starts elsewhere the header is not shown
   --edition N     in the files behind it the signals of 1059 have the names of edition N, 1 (as a rule) or 2
   --              each word behind it names a file
   --version       the version

@@ -1,9 +1,9 @@
-// The table of one block.
-use messages::answer::BlockRead;
+// The table of one message.
+use crate::found;
+use crate::found::Found;
+use crate::found::Head;
 use messages::bias::Bias1059;
 use messages::bias::Bias1230;
-use messages::read1059;
-use messages::read1230;
 use messages::signals;
 use messages::signals::SignalFound;
 use messages::signals1059;
@@ -14,6 +14,8 @@ use printing::text;
 use printing::unsigned;
 use reading::Account;
 use std::num;
+use whole::answer::Header1059;
+use whole::answer::Header1230;
 
 // How many blocks were read, how many of them left eight or more bits unread, and how many were refused.
 pub struct Tally {
@@ -39,8 +41,8 @@ pub fn opening(name: &[u8], account: Account, out: &mut [u8; 65536], at: &mut us
     text(out, at, b"\n");
 }
 
-// The block of message `number`, 1059 or 1230, from data bit `start` on, with the names of an edition of the 1059 signals.
-pub fn block(
+// The message `number`, 1059 or 1230, its block from data bit `start` on, with the names of an edition of the 1059 signals.
+pub fn message(
     number: u64,
     data: &[u8],
     place: u64,
@@ -53,7 +55,7 @@ pub fn block(
     let mut satellites = [0u8; 422];
     let mut signals = [0u8; 422];
     let mut biases = [0i16; 422];
-    let answer = read(
+    let found = found::read(
         number,
         data,
         start,
@@ -61,10 +63,14 @@ pub fn block(
         &mut signals,
         &mut biases,
     );
-    heading(number, place, answer, out, at);
-    let BlockRead::Records { count, end } = answer else {
+    let Found::Records { head, count, end } = found else {
+        heading(number, place, out, at);
+        refusal(found, out, at);
         return one_refused(tally);
     };
+    heading(number, place, out, at);
+    told(b": ", count, b" biases\n", out, at);
+    before(head, out, at);
     rows(
         number,
         edition,
@@ -80,31 +86,62 @@ pub fn block(
     one_read(tally, left)
 }
 
-// The records of 1230 have no satellite.
-fn read(
-    number: u64,
-    data: &[u8],
-    start: usize,
-    satellites: &mut [u8; 422],
-    signals: &mut [u8; 422],
-    biases: &mut [i16; 422],
-) -> BlockRead {
-    if number == 1059 {
-        return read1059::read(data, start, satellites, signals, biases);
-    }
-    read1230::read(data, start, signals, biases)
-}
-
-// The head of a block: its place, and how many records it has or why it is refused.
-fn heading(number: u64, place: u64, answer: BlockRead, out: &mut [u8; 65536], at: &mut usize) {
+// The head of a message: its number and its place.
+fn heading(number: u64, place: u64, out: &mut [u8; 65536], at: &mut usize) {
     phrase(out, at, b"  message ", number, 0, b" at byte ");
     unsigned(out, at, place, 0);
-    match answer {
-        BlockRead::Records { count, end: _ } => told(b": ", count, b" biases\n", out, at),
-        BlockRead::Size => text(out, at, b": refused, Size\n"),
-        BlockRead::Short(bit, _) => told(b": refused, Short at data bit ", bit, b"\n", out, at),
-        BlockRead::Room(count) => told(b": refused, Room for ", count, b" records\n", out, at),
+}
+
+// Why it is refused.
+fn refusal(found: Found, out: &mut [u8; 65536], at: &mut usize) {
+    match found {
+        Found::Size => text(out, at, b": refused, Size\n"),
+        Found::Short(bit) => told(b": refused, Short at data bit ", bit, b"\n", out, at),
+        Found::Room(count) => told(b": refused, Room for ", count, b" records\n", out, at),
+        _ => text(out, at, b": refused, Kind\n"),
     }
+}
+
+// What stands before the block, if it is known.
+fn before(head: Head, out: &mut [u8; 65536], at: &mut usize) {
+    match head {
+        Head::Of1059(header) => header_1059(header, out, at),
+        Head::Of1230(header) => header_1230(header, out, at),
+        Head::Unknown => {}
+    }
+}
+
+fn header_1059(header: Header1059, out: &mut [u8; 65536], at: &mut usize) {
+    told(
+        b"    provider ",
+        header.provider as usize,
+        b", solution ",
+        out,
+        at,
+    );
+    told(b"", header.solution as usize, b", IOD ", out, at);
+    told(b"", header.iod as usize, b", epoch ", out, at);
+    told(b"", header.epoch as usize, b" s, update interval ", out, at);
+    told(
+        b"",
+        header.interval as usize,
+        b", multiple message flag ",
+        out,
+        at,
+    );
+    told(b"", header.multiple as usize, b"\n", out, at);
+}
+
+fn header_1230(header: Header1230, out: &mut [u8; 65536], at: &mut usize) {
+    told(
+        b"    station ",
+        header.station as usize,
+        b", indicator ",
+        out,
+        at,
+    );
+    told(b"", header.indicator as usize, b", reserved ", out, at);
+    told(b"", header.reserved as usize, b"\n", out, at);
 }
 
 fn told(before: &[u8], n: usize, behind: &[u8], out: &mut [u8; 65536], at: &mut usize) {
