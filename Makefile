@@ -5,6 +5,7 @@
 #   make check               the C tests: plain, under sanitizers, and under valgrind where it is there
 #   make relay               the example relay, build/peerivolt/opt/relay
 #   make bench               the benchmark against a plain C program, and against the Rust and RTKLIB where they are there
+#   make bench-worst         looks for the stream that costs most a byte
 #   make differential        the runs against the Rust, where its source, cargo and Debian's librust-tinyvec-dev are there
 #   make differential-faults plants faults in the plain reference, each of which those runs must notice
 #   make lint                clang and cppcheck over the C files, where they are there
@@ -58,7 +59,7 @@ ANSWERS := c/data/answers.hex
 
 RATTLE_FILES := crates.txt $(shell find crates -name must-fail -prune -o -type f \( -name '*.rt' -o -name '*.antt' \) -print)
 
-.PHONY: all install check relay bench bench-run differential differential-faults lint clean
+.PHONY: all install check relay bench bench-run bench-worst differential differential-faults lint clean
 .PHONY: check-papers check-header check-opt check-san check-valgrind check-cpp check-exports check-relay check-install check-programs
 
 all: libpeerivolt.a libpeerivolt.so
@@ -137,7 +138,7 @@ $(B)/pic/%_table.o: c/%.c Makefile
 
 # ---- Programs.
 
-TESTS := test_calls test_messages test_1001 test_random test_recordings test_answers
+TESTS := test_calls test_messages test_1001 test_random test_hostile test_recordings test_answers
 PROGRAMS := $(TESTS) relay
 HELPERS := crumbs expected
 
@@ -219,6 +220,7 @@ check-opt: $(TESTS:%=$(B)/opt/%) $(B)/opt/test_calls_shared
 	$(B)/opt/test_messages $(call many,40000,4000)
 	$(B)/opt/test_1001 $(call many,40000 every,4000)
 	$(B)/opt/test_random $(call many,120000,12000)
+	$(B)/opt/test_hostile $(call many,200,10)
 	$(B)/opt/test_recordings $(RECORDINGS)
 	$(B)/opt/test_answers $(ANSWERS)
 
@@ -227,6 +229,7 @@ check-san: $(TESTS:%=$(B)/san/%)
 	$(B)/san/test_messages $(call many,5000,500)
 	$(B)/san/test_1001 $(call many,10000,1000)
 	$(B)/san/test_random $(call many,40000,4000)
+	$(B)/san/test_hostile $(call many,20,2)
 	$(B)/san/test_recordings $(RECORDINGS)
 	$(B)/san/test_answers $(ANSWERS)
 
@@ -303,6 +306,13 @@ bench: $(ARCHIVE)
 
 bench-run: $(BENCH)
 	$(BENCH)
+
+$(B)/opt/bench_worst: $(B)/opt/bench_worst.o $(ARCHIVE)
+	$(CC) $(LDFLAGS) $^ -o $@
+	@$(call emulated,$@)
+
+bench-worst: $(B)/opt/bench_worst
+	$< 400
 
 differential: $(ARCHIVE)
 	RTCM_RS_SOURCE="$(RUST_SOURCE)" PEERIVOLT_ARCHIVE="$(CURDIR)/$(ARCHIVE)" differential/run.sh

@@ -20,6 +20,7 @@ pub mod SeamLaws
 pub mod SeenLaws
 pub mod TurnLaws
 pub mod LookLaws
+pub mod ManyLaws
 pub mod SightLaws
 pub mod WalkLaws
 pub mod ProgressLaws

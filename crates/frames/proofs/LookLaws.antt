@@ -2,7 +2,7 @@
 use mathlib.Core.Path.{_≡_, refl, sym, ap, _∙_, subst₂}
 use mathlib.Core.Bool.{Bool, false}
 use mathlib.Core.List.{List, _++_}
-use Prim.Native.Nat.{ℕ, _+_, _-_, _≤_, max}
+use Prim.Native.Nat.{ℕ, _+_, _-_, _≤_, _<_, max}
 use native.Mathlib.Omega.{arith}
 use lib.ListN.{length, getD, drop, length-append}
 use Rattle.frames.specs.Scan.{Skip}
@@ -25,6 +25,17 @@ most-less h e k l = omega arith
 
 taken-more : (h e j n : ℕ) → h ≤ e → max e (j + n) - h ≡ max (max (e - h) (j - h)) (j + n - h)
 taken-more h e j n l = most-less h e (j + n) l ∙ sym (most-absorbs (e - h) (j - h) (j + n - h) (omega arith))
+
+-- the place behind a start is nearer to the end
+pub nearer : (n i j : ℕ) → i < n → i ≤ j → n - (j + 1) < n - i
+nearer n i j l k = omega arith
+
+-- no more candidates failed than bytes were skipped
+pub one-more-failed : (f i j : ℕ) → f ≤ i → i ≤ j → f + 1 ≤ j + 1
+one-more-failed f i j l k = omega arith
+
+pub less-again : (b j : ℕ) → b ≤ j → b ≤ j + 1
+less-again b j l = omega arith
 
 module _ {W K : Type 0} (F : Framing W K) (L : Lawful F) (start : ℕ → Bool) (S : Starts F start) (h p : List ℕ) where
   -- a byte that is no start is decided by itself

@@ -14,7 +14,8 @@ use Rattle.frames.specs.Scan.{Decision, Skip, Take, Wait, Item, Skipped}
 use Rattle.frames.specs.Framing.{Framing, Lawful, decide}
 use Rattle.frames.specs.Feed as fed
 use Rattle.frames.specs.Feed.{Next, Held, Found, skipping, next, Fed, only, past, orTake, feed}
-use Rattle.frames.specs.Steps.{sight}
+use Rattle.frames.specs.Steps as steps
+use Rattle.frames.specs.Steps.{sight, onward}
 use Rattle.frames.specs.declared.scan.Sight.{Sight}
 use Rattle.frames.specs.declared.scan.Sight.the-variants.{More, Frame}
 use Rattle.frames.proofs.FramingLaws.{enough, short}
@@ -74,11 +75,6 @@ module _ {W K : Type 0} (d : List ℕ → Decision W K) where
       let ih = feed-all q (g ++ (x ∷ [])) (λ j u. ap d (append-snoc g x (take j q)) ∙ H (suc j) (omega arith)) (ap d (append-snoc g x q) ∙ e) in
       rw u (ap (past []) (ih ∙ ap (λ s. fed.More (length q) [] s) (append-snoc g x q)))
 
--- i bytes skipped and t bytes taken before
-abbrev pub onward : ℕ → ℕ → Sight → Sight
-onward i t (More n) = More (i + n)
-onward i t (Frame n l u) = Frame (i + n) l (t + u)
-
 onward-none : (r : Sight) → onward 0 0 r ≡ r
 onward-none (More n) = rw zero-add
 onward-none (Frame n l u) = simp zero-add
@@ -101,13 +97,11 @@ module _ {W K : Type 0} where
   sight-skipped x (fed.Frame t is k f h) = simp (zero-add, one-add)
 
 module _ {W K : Type 0} (F : Framing W K) (h p : List ℕ) where
-  -- what is held, with i bytes skipped and t taken
-  abbrev pub heldAt : ℕ → ℕ → List ℕ
-  heldAt i t = drop i (h ++ take t p)
+  abbrev heldAt : ℕ → ℕ → List ℕ
+  heldAt i t = steps.heldAt h p i t
 
-  -- the call goes on from there
   abbrev pub Reached : ℕ → ℕ → Type 0
-  Reached i t = (i ≤ length h + t) × (t ≤ length p) × (sight (feed (decide F) h p) ≡ onward i t (sight (feed (decide F) (heldAt i t) (drop t p))))
+  Reached i t = steps.Reached F h p i t
 
   pub reached-start : Reached 0 0
   reached-start = (omega arith, omega arith, rw append-nil (sym (onward-none (sight (feed (decide F) h p)))))

@@ -8,6 +8,7 @@ use lib.Dec.{eqb}
 use Rattle.bits.specs.Told.{Accepted}
 use Rattle.bits.specs.Outcome.{outcome}
 use Rattle.bits.specs.Onto.{onto}
+use Rattle.bits.specs.Crc.{crc}
 use Rattle.frames.specs.Scan.{Decision, Skip, Take, Wait}
 use Rattle.frames.specs.Framing.{Framing, decide}
 use Rattle.frames.specs.Feed as fed
@@ -62,6 +63,26 @@ sight (fed.Frame t is k f h) = Frame (length is) (length f) t
 abbrev pub placeSeen : ℕ → Sight → Place
 placeSeen n (More i) = walk.Held (n + i)
 placeSeen n (Frame i l t) = walk.Frame (n + i) l
+
+-- i bytes skipped and t bytes taken before
+abbrev pub onward : ℕ → ℕ → Sight → Sight
+onward i t (More n) = More (i + n)
+onward i t (Frame n l u) = Frame (i + n) l (t + u)
+
+-- what is held of the bytes h with the piece p behind them, with i bytes skipped and t taken
+abbrev pub heldAt : List ℕ → List ℕ → ℕ → ℕ → List ℕ
+heldAt h p i t = drop i (h ++ take t p)
+
+-- the call on h and p goes on from there
+abbrev pub Reached : {W K : Type 0} → Framing W K → List ℕ → List ℕ → ℕ → ℕ → Type 0
+Reached F h p i t = (i ≤ length h + t) × (t ≤ length p) × (sight (fed.feed (decide F) h p) ≡ onward i t (sight (fed.feed (decide F) (heldAt h p i t) (drop t p))))
+
+-- q holds the checksum of the bytes of s from each place of a window up to the window's end
+pub record Tails (s q : List ℕ) (base stop : ℕ) : Type 0 where
+  pub ordered : base ≤ stop
+  pub within : stop ≤ length s
+  pub room : stop < base + length q
+  pub sums : (k : ℕ) → base + k ≤ stop → getD q k 0 ≡ crc (take (stop - (base + k)) (drop (base + k) s))
 
 -- The places found lie within the n bytes held and the m bytes of the piece, and what is left has room in an area of so many bytes.
 abbrev pub Movable : (area n m : ℕ) → Sight → Type 0

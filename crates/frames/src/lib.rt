@@ -4,6 +4,7 @@
 pub mod close;
 pub mod fate;
 pub mod frame;
+mod many;
 pub mod scan;
 pub mod scanner;
 mod ubx;

@@ -18,6 +18,7 @@ ghost use Rattle.frames.specs.Walk.{nextFrom};
 ghost use Rattle.frames.specs.Answers.{toldNext};
 ghost use Rattle.frames.specs.Steps.{startsRtcm, startsEither, startsIn, Start, seen, sight, placeSeen, among};
 use crate::frame;
+use crate::many;
 use crate::ubx;
 use bits::crc;
 
@@ -70,7 +71,8 @@ pub(crate) enum Sight {
     Frame(usize, usize, usize),
 }
 
-// The first frame of the held bytes with the piece behind them: in mode 0 of RTCM, else of either kind.
+// The first frame of the held bytes with the piece behind them: in mode 0 of RTCM, else of either kind. Each candidate's
+// sum is taken by itself, until those that failed are many for the way that was made; from there on a window decides.
 pub(crate) fn look(held: &[u8], piece: &[u8], mode: u32) -> Sight
     requires { ⌜ length (now held) + length (now piece) < 2 ^ 64 ⌝ }
     ensures { λ r. ⌜ r ≡ sight (feed (decide (framingOf mode)) (now (held .entry)) (now (piece .entry))) ⌝ }
@@ -79,7 +81,11 @@ pub(crate) fn look(held: &[u8], piece: &[u8], mode: u32) -> Sight
     let all = h + piece.len();
     let mut i: usize = 0;
     let mut end = h;
+    let mut failed: usize = 0;
     while i < all {
+        if 64 + i / 64 < failed {
+            return many::look_on(held, piece, mode, i, end);
+        }
         let j = next_start(held, piece, i, mode);
         if all <= j {
             return Sight::More(j);
@@ -93,6 +99,7 @@ pub(crate) fn look(held: &[u8], piece: &[u8], mode: u32) -> Sight
             }
             Seen::NotValid(n) => {
                 end = most(end, j + n);
+                failed += 1;
                 i = j + 1;
             }
         }
@@ -128,7 +135,7 @@ pub(crate) fn look_last(held: &[u8], mode: u32) -> Sight
 }
 
 // The place of the first byte from place i on that starts a frame in the mode, or the end.
-fn next_start(held: &[u8], piece: &[u8], i: usize, mode: u32) -> usize
+pub(crate) fn next_start(held: &[u8], piece: &[u8], i: usize, mode: u32) -> usize
     requires { ⌜ (i ≤ length (now held) + length (now piece)) × (length (now held) + length (now piece) < 2 ^ 64) ⌝ }
     ensures { λ r. ⌜ Start (startsIn mode) (now (held .entry) ++ now (piece .entry)) i r ⌝ }
 {
@@ -305,7 +312,7 @@ fn sum_of(held: &[u8], piece: &[u8], i: usize, n: usize) -> u32
 }
 
 // The three bytes from place i on, highest first.
-fn three_at(held: &[u8], piece: &[u8], i: usize) -> u32
+pub(crate) fn three_at(held: &[u8], piece: &[u8], i: usize) -> u32
     requires { ⌜ (i + 3 ≤ length (now held) + length (now piece)) × (length (now held) + length (now piece) < 2 ^ 64) ⌝ }
     ensures { λ r. ⌜ (r ≡ field (now (held .entry) ++ now (piece .entry)) (i * 8) 24) × (r < 2 ^ 24) ⌝ }
 {
@@ -333,7 +340,7 @@ pub(crate) fn least(a: usize, b: usize) -> usize
     if a < b { a } else { b }
 }
 
-fn most(a: usize, b: usize) -> usize
+pub(crate) fn most(a: usize, b: usize) -> usize
     ensures { λ r. ⌜ r ≡ max a b ⌝ }
 {
     if a < b { b } else { a }

@@ -167,7 +167,7 @@ fn kind_of(first: u8) -> Kind
 }
 
 // Writes n bytes from place i on, of the held bytes with the piece behind them, to the front of the output.
-fn gather(out: &mut [u8], held: &[u8], piece: &[u8], i: usize, n: usize)
+pub(crate) fn gather(out: &mut [u8], held: &[u8], piece: &[u8], i: usize, n: usize)
     requires { ⌜ (n ≤ length (now out)) × (i + n ≤ length (now held) + length (now piece)) × (length (now held) + length (now piece) < 2 ^ 64) ⌝ }
     ensures { λ _. ⌜ now (out .exit) ≡ onto (take n (drop i (now (held .entry) ++ now (piece .entry)))) (now (out .entry)) ⌝ }
 {

@@ -1,0 +1,6 @@
+pub mod MoveLaws
+pub mod HalfLaws
+pub mod ProductLaws
+pub mod TailLaws
+pub mod FillLaws
+pub mod OnlyLaws
