@@ -270,7 +270,7 @@ check-programs:
 	@for program in $(if $(EMULATOR),target/bin/*); do \
 	    printf '#!/bin/sh\nexec %s "%s" "$$@"\n' '$(EMULATOR)' "$(CURDIR)/$$program" >build/bin/$${program##*/} && chmod +x build/bin/$${program##*/}; \
 	done
-	@for program in rtcm_scan rtcm_biases rtcm_observations rtcm_why rtcm_compare; do \
+	@for program in rtcm_scan rtcm_biases rtcm_observations rtcm_why rtcm_compare rtcm_salvage; do \
 	    [ -x target/bin/$$program ] || { missing=1; break; }; \
 	done; \
 	if [ -z "$$missing" ]; then \

@@ -201,6 +201,75 @@ warnings() {
     check "no such message" "$("$bin/rtcm_biases" "$data/rtcm3.bin" | grep -c '^  no message 1059 or 1230 in 2 frames$')" 1
 }
 
+# How many bytes the list has in a line of its closing counts.
+counted() { sed -n "s/^ *$1  *\([0-9]*\).*/\1/p" "$work/err" | head -n 1; }
+
+# Of each recording: every frame is written, what is written is frames alone, and with the list every byte is accounted for.
+salvage_recordings() {
+    for name in rtcm3-1.bin rtcm3-3.bin rtcm3.bndm.bin rtcm3.bin ublox-f9p-rtcm.bin testglo.rtcm3; do
+        "$bin/rtcm_salvage" "$data/$name" >"$work/out" 2>"$work/err"
+        check "rtcm_salvage $name: the sum" "$(grep -c 'every byte is accounted for$' "$work/err")" 1
+        given=$(counted 'given up')
+        check "rtcm_salvage $name: size" "$(wc -c <"$work/out")" "$(($(wc -c <"$data/$name") - given))"
+        listed=$(sed -n 's/^ *[0-9][0-9]*  *\([0-9]*\)  .*/\1/p' "$work/err" | paste -s -d + - | sed 's/^$/0/')
+        check "rtcm_salvage $name: the rows make what is given up" "$(($listed))" "$given"
+        "$bin/rtcm_scan" --quiet "$work/out" >"$work/scanned" 2>/dev/null
+        check "rtcm_salvage $name: frames alone" "$(grep -c '^  skipped                    0$' "$work/scanned")" 1
+    done
+}
+
+# A recording that is cut off inside a false candidate, which hides three good frames; and an unfinished one behind them.
+salvage_cut() {
+    cut=$crates/rtcm_salvage/data/cut.bin
+    "$bin/rtcm_salvage" --list "$work/list" "$cut" >"$work/out" 2>"$work/err"
+    check "rtcm_salvage: nothing is said beside the list" "$(cat "$work/err")" ""
+    check "rtcm_salvage: all frames" "$(cmp "$work/out" "$crates/rtcm_salvage/stdout" && echo same)" same
+    cat >"$work/expected" <<END
+$cut
+       place       bytes  given up as
+           0           3  not D3
+         313           1  bad check
+         314           6  not D3
+         320           1  unfinished candidate
+         321           2  not D3
+         528           1  unfinished candidate
+         529           4  not D3
+  bytes                    533
+  frames fed                 2
+    bytes                  310
+  frames salvaged            3
+    bytes                  205
+  given up                  18
+    not D3                  15
+    bad check                1
+    unfinished               2
+  sum                      533  every byte is accounted for
+END
+    check "rtcm_salvage: the list" "$(diff "$work/list" "$work/expected")" ""
+    "$bin/rtcm_salvage" --salvaged - <"$cut" >"$work/out" 2>"$work/err"
+    check "rtcm_salvage: salvaged alone" "$(tail -c 205 "$crates/rtcm_salvage/stdout" | cmp "$work/out" - && echo same)" same
+    check "rtcm_salvage: the list on standard error" "$(tail -n +2 "$work/err" | diff - "$work/list" | grep -c '^[<>]')" 1
+}
+
+salvage_options() {
+    check "rtcm_salvage --version" "$("$bin/rtcm_salvage" --version)" "rtcm_salvage $version"
+    check "rtcm_salvage -h is --help" "$("$bin/rtcm_salvage" -h)" "$("$bin/rtcm_salvage" --help)"
+    check "rtcm_salvage --help tells of the status" "$("$bin/rtcm_salvage" --help | grep -c 'exit status is always 0')" 1
+    for words in "--no-such --nor-this $1" "" "$1 $1" "--list" "$1 --list" "$work/missing" "--list $work/none/list $1"; do
+        # shellcheck disable=SC2086
+        "$bin/rtcm_salvage" $words >"$work/out" 2>"$work/err"
+        check "rtcm_salvage $words: is failure" "$(last_line)" "rtcm_salvage: failed"
+        check "rtcm_salvage $words: nothing is written" "$(wc -c <"$work/out")" 0
+    done
+    "$bin/rtcm_salvage" --no-such --nor-this "$1" >"$work/out" 2>"$work/err"
+    check "rtcm_salvage: the first of two wrong options is named" "$(grep -c 'no such option: --no-such ' "$work/err")" 1
+    "$bin/rtcm_salvage" --list /dev/full "$1" >"$work/out" 2>"$work/err"
+    check "rtcm_salvage, full list: said" "$(grep -c '^list: ' "$work/err")" 1
+    check "rtcm_salvage, full list: last line" "$(last_line)" "rtcm_salvage: failed"
+    (cd "$work" && cp "$1" ./--list && "$bin/rtcm_salvage" -- --list >out 2>err)
+    check "rtcm_salvage: a file behind --" "$(head -n 1 "$work/err")" "--list"
+}
+
 observations=$crates/rtcm_observations/data/observations.bin
 sent=$crates/rtcm_compare/data/sent.bin
 received=$crates/rtcm_compare/data/received.bin
@@ -232,6 +301,11 @@ two_words rtcm_compare "$sent" "$received"
 refusals
 no_output rtcm_compare "$work/zeros" "$work/others"
 warnings
+no_output rtcm_salvage "$data/rtcm3-3.bin"
+choked_output rtcm_salvage "$data/rtcm3-3.bin"
+salvage_options "$data/rtcm3-3.bin"
+salvage_recordings
+salvage_cut
 
 echo "programs: $passed checks, $failed failed"
 [ "$failed" -eq 0 ]

@@ -1,12 +1,15 @@
 /*
  * Real recordings, scanned whole by repeated frame checks and in pieces of 1, 7, 1,460 and 65,536 bytes: the counts are
- * known, whatever the cut. The bias blocks in them are read, held to what another program decoded, and written
- * back; whole messages 1230 are written back byte for byte.
+ * known, whatever the cut. The bias blocks in them are read, held to what another program decoded, and written back;
+ * whole messages 1230 are written back byte for byte. Each recording, broken off at random places and with a false start
+ * near its end, is fed in random pieces and closed, in both modes: frames and sum are those of the plain reference.
  *
  * Usage: test_recordings FILE..   where a FILE is known by its last name
  */
 #include "test.h"
 
+#include "random.h"
+#include "reference.h"
 #include "signals.h"
 
 struct recording {
@@ -275,9 +278,99 @@ static void scan_both_kinds(size_t piece_len)
     CHECK(scanner.held_count == 0 && scanner.taken == 0 && scanner.mode == PV_RTCM_AND_UBX);
 }
 
+/* ---- Closing. ---- */
+
+typedef uint32_t feeder(uint8_t *held, size_t held_len, size_t held_count, uint64_t taken, uint32_t mode,
+                        const uint8_t *piece, size_t piece_len, uint8_t *out, size_t out_len,
+                        uint64_t *extra, size_t extra_len);
+typedef uint32_t closer(uint8_t *held, size_t held_len, size_t held_count, uint64_t taken, uint32_t mode,
+                        uint8_t *out, size_t out_len, uint64_t *extra, size_t extra_len);
+
+/* What a recording gives that is fed and then closed: its frames, how many were fed, and the bytes given up. */
+struct salvaged {
+    size_t frames, fed, framed, given_up;
+    uint64_t places[1024];
+    size_t lengths[1024];
+};
+
+/* One call's answer: its frame, if it has one, is the recording's own bytes at its place. */
+static void note(struct salvaged *found, const uint8_t *recording, const uint8_t *frame, const uint64_t *extra)
+{
+    found->given_up += extra[PV_AT_FED_SKIPPED];
+    if (extra[PV_AT_FED_IS_FRAME] != PV_FRAME)
+        return;
+    size_t length = extra[PV_AT_FED_FRAME_LENGTH];
+    CHECK(found->frames < 1024);
+    CHECK(memcmp(frame, recording + extra[PV_AT_FED_PLACE], length) == 0);
+    found->places[found->frames] = extra[PV_AT_FED_PLACE];
+    found->lengths[found->frames] = length;
+    found->frames++;
+    found->framed += length;
+}
+
+/* Feeds a recording in pieces of at most so many bytes, closes it, and holds the sum. */
+static void salvage(struct salvaged *found, feeder *feed, closer *close, const uint8_t *recording, size_t len,
+                    uint32_t mode, size_t most)
+{
+    uint8_t held[PV_HELD_SIZE] = { 0 }, frame[PV_FRAME_MAX] = { 0 };
+    uint64_t extra[PV_EXTRA_SIZE] = { 0 }, taken = 0;
+    size_t count = 0;
+    memset(found, 0, sizeof *found);
+    while (taken < len) {
+        size_t piece = len - taken < most ? len - taken : (size_t)(random64() % most) + 1;
+        size_t end = taken + piece;
+        do {
+            CHECK_EQ(feed(held, sizeof held, count, taken, mode, recording + taken, end - taken, frame, sizeof frame,
+                          extra, PV_EXTRA_SIZE), PV_ACCEPTED);
+            note(found, recording, frame, extra);
+            count = extra[PV_AT_FED_HELD_COUNT];
+            taken = extra[PV_AT_FED_ALL_TAKEN];
+        } while (extra[PV_AT_FED_IS_FRAME] == PV_FRAME);
+    }
+    CHECK_EQ(found->framed + found->given_up + count, len);
+    found->fed = found->frames;
+    do {
+        CHECK_EQ(close(held, sizeof held, count, taken, mode, frame, sizeof frame, extra, PV_EXTRA_SIZE), PV_ACCEPTED);
+        note(found, recording, frame, extra);
+        count = extra[PV_AT_FED_HELD_COUNT];
+        taken = extra[PV_AT_FED_ALL_TAKEN];
+    } while (extra[PV_AT_FED_IS_FRAME] == PV_FRAME);
+    CHECK_EQ(count, 0);
+    CHECK_EQ(taken, 0);
+    CHECK_EQ(found->framed + found->given_up, len);
+}
+
+/* Breaks the recording off at a place, puts a false start before it, and salvages it in random pieces; counts what
+ * closing found. */
+static size_t salvage_broken_off(size_t len, uint32_t mode)
+{
+    static uint8_t copy[sizeof stream];
+    static struct salvaged ours, theirs;
+    memcpy(copy, stream, len);
+    if (len > PV_FRAME_MAX) {
+        size_t at = len - 4 - (size_t)(random64() % 1020);
+        memcpy(copy + at, "\xD3\x03\xFF", 3);
+    }
+    salvage(&theirs, ref_feed, ref_close, copy, len, mode, PV_PIECE_MAX);
+    salvage(&ours, pv_feed, pv_close, copy, len, mode, (size_t)(random64() % 3000) + 1);
+    CHECK_EQ(ours.frames, theirs.frames);
+    CHECK_EQ(ours.given_up, theirs.given_up);
+    CHECK(memcmp(ours.places, theirs.places, sizeof ours.places) == 0);
+    CHECK(memcmp(ours.lengths, theirs.lengths, sizeof ours.lengths) == 0);
+    return ours.frames - ours.fed;
+}
+
+static size_t salvage_recording(void)
+{
+    size_t salvaged = salvage_broken_off(stream_len, PV_RTCM_ONLY);
+    for (uint32_t round = 0; round < 12; round++)
+        salvaged += salvage_broken_off((size_t)(random64() % (stream_len + 1)), round % 2);
+    return salvaged;
+}
+
 int main(int argc, char **argv)
 {
-    size_t scanned = 0;
+    size_t scanned = 0, salvaged = 0;
     for (int a = 1; a < argc; a++)
         if (strcmp(last_name(argv[a]), "rtcm3-1.1059.tsv") == 0)
             open_decoded(argv[a]);
@@ -287,6 +380,7 @@ int main(int argc, char **argv)
                 continue;
             CHECK_EQ(read_file(argv[a]), 0);
             scan_recording(&recordings[i]);
+            salvaged += salvage_recording();
             scanned++;
             if (strcmp(recordings[i].name, "ublox-f9p-rtcm.bin") == 0)
                 for (size_t n = 1; n <= 65536; n = n * 13 + 1)
@@ -294,6 +388,7 @@ int main(int argc, char **argv)
         }
     }
     CHECK_EQ(scanned, sizeof recordings / sizeof recordings[0]);
+    CHECK(salvaged > 20);
     CHECK_EQ(messages_1059, 34);
     CHECK_EQ(records_1059, 3162);
     CHECK_EQ(messages_1230, 9);

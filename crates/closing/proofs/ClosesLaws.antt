@@ -17,12 +17,12 @@ use Rattle.frames.specs.Call.{Scanner, afresh, heldFrom, onwards, FedAnswer, ca
 use Rattle.frames.specs.Close.{Gave, closing, closed, ending, Done, Frame, closedBy, closeOf}
 use Rattle.frames.specs.Offered.{found, Calls}
 use Rattle.frames.proofs.FramingLaws.{Whole, decides}
-use Rattle.frames.proofs.ItemLaws.{bytes-append, handed-append, handed-none, handed-one, skipped-append}
+use Rattle.frames.proofs.ItemLaws.{bytes-append, handed-append, handed-none, handed-one, skipped-append, length-items}
 use Rattle.frames.proofs.FeedLaws.{begins, scan-next}
-use Rattle.frames.proofs.KeptLaws.{Kept, kept, skipped-alone}
+use Rattle.frames.proofs.KeptLaws.{Kept, kept, skipped-alone, bytes-alone}
 use Rattle.frames.proofs.CallLaws.{Fits, accepted, accepts}
 use Rattle.frames.proofs.AnswerLaws.{area-stays, held-count}
-use Rattle.frames.proofs.CloseLaws.{closing-whole, ending-decides, close-is, close-by, every-byte-once, sum-closed}
+use Rattle.frames.proofs.CloseLaws.{closing-whole, ending-decides, close-is, close-by, all-given, every-byte-once, sum-closed}
 use Rattle.closing.specs.Closing.{Closes, done, then}
 
 -- ---- two deciders that agree on every byte scan alike
@@ -149,6 +149,41 @@ module _ {W K : Type 0} (F : Framing W K) where
           let f : feedOf (ending F) a x [] o ≡ outcome (Accepted (call.Frame l (r .0) s i k y)) (b, q) = λ j. outcome (r .1 j) ((sym (close-is F a x o) ∙ e) j .areas) in
           let v = accepts (ending F) a x [] o (call.Frame l (r .0) s i k y) b q f in
           of-found a x o b q s (r .0) y l i k (next (decide (ending F)) (take (x .count) a)) (closed-next (take (x .count) a)) (kept (decide (ending F)) [] (take (x .count) a)) (v .0) (v .1)
+
+    -- ---- every byte that was held is skipped, in the frame or held then
+
+    module _ (a : List ℕ) (x : Scanner) (o b q : List ℕ) (s : ℕ) (y : Scanner) where
+      count-found : (l t i : ℕ) (k : K) (r : Next (Gave W) K) → Kept (take (x .count) a) [] (only r)
+          → called (only r) x a o ≡ outcome (Accepted (call.Frame l t s i k y)) (b, q) → length (take (x .count) a) ≡ s + l + y .count
+      count-found l t i k (Held is g) kp v =
+          let told : _≡_ {A = Told (FedAnswer K)} (Accepted (call.More 0 (length is) (onwards x 0 (length g)))) (Accepted (call.Frame l t s i k y)) = ap (λ z. z .answer) v in
+          let z : _≡_ {A = ℕ} 0 1 = cc in absurd (omega arith)
+      count-found l t i k (Found is j f g) kp v =
+          let told : _≡_ {A = Told (FedAnswer K)} (Accepted (call.Frame (length f) 0 (length is) (heldFrom x + length is) j (onwards x 0 (length g)))) (Accepted (call.Frame l t s i k y)) = ap (λ z. z .answer) v in
+          let yl : length f ≡ l = cc in
+          let ys : length is ≡ s = cc in
+          let yn : onwards x 0 (length g) ≡ y = cc in
+          let ym : length g ≡ y .count = ap (λ z. z .count) yn in
+          let len = simp length-append at (ap length (kp .1 .bytes)) in
+          omega (arith, len, yl, ys, ym, bytes-alone is (kp .1 .none))
+
+      pub done-keeps : outcome (Accepted (Done s y)) (b, q) ≡ closeOf F a x o → x .count ≡ s
+      done-keeps e =
+          let g = call-ends a x o b q s y (sym e) in
+          let r = is-done (feedOf (ending F) a x [] o .answer) s y (ap (λ z. z .answer) (sym (close-is F a x o) ∙ sym e)) in
+          let f : feedOf (ending F) a x [] o ≡ outcome (Accepted (call.More (r .0) s (r .1))) (b, q) = λ j. outcome (r .2 j) ((sym (close-is F a x o) ∙ sym e) j .areas) in
+          let n = held-count (ending F) a x [] o (accepts (ending F) a x [] o (call.More (r .0) s (r .1)) b q f .0) in
+          let none : framed (handed (heldFrom x) (closed F (take (x .count) a))) ≡ 0 = ap framed (g .0) in
+          omega (arith, n, none, g .1, length-items (heldFrom x) (closed F (take (x .count) a)), ap length (all-given F L (take (x .count) a)))
+
+      pub frame-keeps : (l i : ℕ) (k : K) → outcome (Accepted (Frame l s i k y)) (b, q) ≡ closeOf F a x o → (x .count ≡ s + l + y .count) × (y .count ≤ 1029)
+      frame-keeps l i k e =
+          let r = is-found (feedOf (ending F) a x [] o .answer) l s i k y (ap (λ z. z .answer) (sym (close-is F a x o) ∙ sym e)) in
+          let f : feedOf (ending F) a x [] o ≡ outcome (Accepted (call.Frame l (r .0) s i k y)) (b, q) = λ j. outcome (r .1 j) ((sym (close-is F a x o) ∙ sym e) j .areas) in
+          let v = accepts (ending F) a x [] o (call.Frame l (r .0) s i k y) b q f in
+          let n = held-count (ending F) a x [] o (v .0) in
+          let c = count-found l (r .0) i k (next (decide (ending F)) (take (x .count) a)) (kept (decide (ending F)) [] (take (x .count) a)) (v .1) in
+          (omega (arith, n, c), omega (arith, n, c, v .0 .count))
 
     -- CLOSING CALLS until Done hand out the frames of the scan of the end, at their places, and skip the rest; the scanner is fresh then, and opened for the same.
     pub closes : {a : List ℕ} {x y : Scanner} {s : ℕ} {fs : List (Handed K)} → Closes F a x fs s y

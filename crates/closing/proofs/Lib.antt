@@ -1,1 +1,3 @@
 pub mod ClosesLaws
+pub mod ReasonLaws
+pub mod RecordingLaws

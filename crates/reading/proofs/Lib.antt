@@ -3,3 +3,4 @@ pub mod AccountLaws
 pub mod NumberLaws
 pub mod ArgumentLaws
 pub mod AskedLaws
+pub mod SkipLaws

@@ -3,3 +3,4 @@ pub mod Arguments
 pub mod Number
 pub mod Asked
 pub mod Load
+pub mod Skips

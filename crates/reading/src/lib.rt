@@ -3,7 +3,9 @@ ghost use Prim.Native.Nat.{_+_, _-_, _≤_};
 ghost use mathlib.Core.Path.{_≡_};
 ghost use lib.ListN.{length};
 ghost use Rattle.frames.specs.Answers.{known};
-ghost use Rattle.reading.specs.Account.{Right, AllTaken, RightStep};
+ghost use Rattle.reading.specs.Account.{Right, AllTaken, RightFrame, RightTaken, RightClosed, RightStep};
+use frames::close;
+use frames::close::Closed;
 use frames::scanner;
 use frames::scanner::Fed;
 use std::num;
@@ -12,12 +14,13 @@ pub mod arguments;
 pub mod asked;
 pub mod load;
 mod number;
+pub mod skips;
 
 pub use number::frame_of;
 pub use number::number_of;
 
 // How far a recording is read. Each byte is in a frame, skipped, held, or in the part of the piece from `from` to `to`,
-// which is not taken yet. Sums go round at 2^64.
+// which is not taken yet. Sums go round at 2^64. Mode 0 is RTCM only, 1 is RTCM and UBX.
 pub struct Account {
     pub bytes: u64,
     pub frames: u64,
@@ -26,6 +29,22 @@ pub struct Account {
     pub held: usize,
     pub from: usize,
     pub to: usize,
+    pub mode: u32,
+}
+
+// What the scanner makes of what is there.
+pub enum Taken {
+    // A frame, at the front of the area for it, with its place in the recording and its kind.
+    Frame {
+        place: u64,
+        length: usize,
+        kind: scanner::Kind,
+        account: Account,
+    },
+    // All is taken, and no further frame is found.
+    All(Account),
+    // The account is none that a scanner takes.
+    Failed(Account),
 }
 
 // What a step comes to.
@@ -44,8 +63,15 @@ pub enum Step {
     Failed(Account),
 }
 
-// The account before anything is read.
+// The account before anything of RTCM is read.
 pub fn start() -> Account
+    ensures { λ r. ⌜ AllTaken r ⌝ }
+{
+    start_in(0)
+}
+
+// The account before anything is read in a mode.
+pub fn start_in(mode: u32) -> Account
     ensures { λ r. ⌜ AllTaken r ⌝ }
 {
     Account {
@@ -56,6 +82,7 @@ pub fn start() -> Account
         held: 0,
         from: 0,
         to: 0,
+        mode,
     }
 }
 
@@ -69,34 +96,79 @@ pub fn next(
 ) -> Step
     ensures { λ r. ⌜ (Right account → RightStep r) ⌝ }
 {
+    match take(held, piece, frame, account) {
+        Taken::Frame {
+            place,
+            length,
+            kind: _,
+            account: a,
+        } => Step::Frame {
+            place,
+            length,
+            account: a,
+        },
+        Taken::All(a) => refill(fd, piece, a),
+        Taken::Failed(a) => Step::Failed(a),
+    }
+}
+
+// Hands out the next frame of the piece, or takes all of it.
+pub fn take(
+    held: &mut [u8; 1029],
+    piece: &[u8; 65536],
+    frame: &mut [u8; 1029],
+    account: Account,
+) -> Taken
+    ensures { λ r. ⌜ (Right account → RightTaken r) ⌝ }
+{
     let rest = part(piece, account.from, account.to);
-    match scanner::feed(held, holding(account.held), rest, frame) {
+    match scanner::feed(held, holding(account.held, account.mode), rest, frame) {
         Fed::Frame {
             length,
             taken,
             skipped,
             place: _,
-            kind: _,
+            kind,
             scanner,
-        } => framed(account, length, taken, skipped, scanner.count),
+        } => framed(account, length, taken, skipped, scanner.count, kind),
         Fed::More {
             taken: _,
             skipped,
             scanner,
-        } => refill(fd, piece, passed(account, skipped, scanner.count)),
-        _ => Step::Failed(account),
+        } => Taken::All(passed(account, skipped, scanner.count)),
+        _ => Taken::Failed(account),
     }
 }
 
-// A scanner for RTCM that holds so many bytes. The account counts places itself, past 2^48 too, so that the scanner counts
-// from the first byte held.
-fn holding(count: usize) -> scanner::Scanner
-    ensures { λ r. ⌜ known r ≡ record { count = count; taken = count; mode = 0 } ⌝ }
+// At the end of the recording: hands out the next frame among the bytes held, or gives all of them up.
+pub fn close(held: &mut [u8; 1029], frame: &mut [u8; 1029], account: Account) -> Taken
+    ensures { λ r. ⌜ (Right account → RightClosed r) ⌝ }
+{
+    match close::close(held, holding(account.held, account.mode), frame) {
+        Closed::Frame {
+            length,
+            skipped,
+            place: _,
+            kind,
+            scanner,
+        } => framed(account, length, 0, skipped, scanner.count, kind),
+        Closed::Done {
+            skipped,
+            scanner: _,
+        } => Taken::All(emptied(account, skipped)),
+        _ => Taken::Failed(account),
+    }
+}
+
+// A scanner that holds so many bytes. The account counts places itself, past 2^48 too, so that the scanner counts from the
+// first byte held.
+fn holding(count: usize, mode: u32) -> scanner::Scanner
+    ensures { λ r. ⌜ known r ≡ record { count = count; taken = count; mode = mode } ⌝ }
 {
     scanner::Scanner {
         count,
         taken: count as u64,
-        mode: 0,
+        mode,
     }
 }
 
@@ -114,7 +186,14 @@ fn part(bytes: &[u8], from: usize, to: usize) -> &[u8]
 }
 
 // Reads the next piece.
-fn refill(fd: i32, piece: &mut [u8], account: Account) -> Step
+pub fn refill(fd: i32, piece: &mut [u8; 65536], account: Account) -> Step
+    ensures { λ r. ⌜ (AllTaken account → RightStep r) ⌝ }
+{
+    read_on(fd, piece, account)
+}
+
+// Reads the next piece, as much of it as the area takes.
+fn read_on(fd: i32, piece: &mut [u8], account: Account) -> Step
     ensures { λ r. ⌜ (AllTaken account → length (now (piece .entry)) ≤ 65536 → RightStep r) ⌝ }
 {
     let got = libc::read(fd, piece);
@@ -129,8 +208,15 @@ fn refill(fd: i32, piece: &mut [u8], account: Account) -> Step
 }
 
 // A frame is handed out. Before it are the bytes in frames and the skipped ones.
-fn framed(a: Account, length: usize, taken: usize, skipped: usize, held: usize) -> Step
-    ensures { λ r. ⌜ (Right a → taken ≤ a .to - a .from → a .held + taken ≡ skipped + length + held → held ≤ 1029 → RightStep r) ⌝ }
+fn framed(
+    a: Account,
+    length: usize,
+    taken: usize,
+    skipped: usize,
+    held: usize,
+    kind: scanner::Kind,
+) -> Taken
+    ensures { λ r. ⌜ (Right a → taken ≤ a .to - a .from → a .held + taken ≡ skipped + length + held → held ≤ 1029 → RightFrame r) ⌝ }
 {
     let all = num::wrapping_add_u64(a.skipped, skipped as u64);
     let place = num::wrapping_add_u64(a.framed, all);
@@ -142,10 +228,12 @@ fn framed(a: Account, length: usize, taken: usize, skipped: usize, held: usize) 
         held,
         from: num::wrapping_add_usize(a.from, taken),
         to: a.to,
+        mode: a.mode,
     };
-    Step::Frame {
+    Taken::Frame {
         place,
         length,
+        kind,
         account,
     }
 }
@@ -162,6 +250,23 @@ fn passed(a: Account, skipped: usize, held: usize) -> Account
         held,
         from: 0,
         to: 0,
+        mode: a.mode,
+    }
+}
+
+// All that was held is given up.
+fn emptied(a: Account, skipped: usize) -> Account
+    ensures { λ r. ⌜ (Right a → a .held ≡ skipped → Right r × (r .held ≡ 0)) ⌝ }
+{
+    Account {
+        bytes: a.bytes,
+        frames: a.frames,
+        framed: a.framed,
+        skipped: num::wrapping_add_u64(a.skipped, skipped as u64),
+        held: 0,
+        from: a.from,
+        to: a.to,
+        mode: a.mode,
     }
 }
 
@@ -177,5 +282,6 @@ fn grown(a: Account, n: usize) -> Account
         held: a.held,
         from: 0,
         to: n,
+        mode: a.mode,
     }
 }

@@ -1,0 +1,22 @@
+-- Bytes that were skipped. Assumes nothing.
+use mathlib.Core.Path.{_≡_}
+use mathlib.Core.Bool.{cond}
+use mathlib.Core.List.{List}
+use Prim.Native.Nat.{ℕ, _+_, _-_, _%_, _^_}
+use lib.ListN.{getD}
+use lib.Dec.{ltb, eqb}
+use Rattle.reading.specs.declared.skips.Skips.{Skips}
+
+-- the byte at place i of the first n bytes of an area and of the bytes of a piece from place m on; 0 if there is none
+abbrev pub byteIn : List ℕ → ℕ → List ℕ → ℕ → ℕ → ℕ
+byteIn area n piece m i = cond (ltb i n) (getD area i 0) (getD piece (m + (i - n)) 0)
+
+-- one byte more: it is a D3, a B5 or another
+abbrev pub counted : Skips → ℕ → Skips
+counted a x =
+    cond (eqb x 0xD3) (record { others = a .others; d3 = (a .d3 + 1) % 2 ^ 64; b5 = a .b5 })
+    (cond (eqb x 0xB5) (record { others = a .others; d3 = a .d3; b5 = (a .b5 + 1) % 2 ^ 64 })
+    (record { others = (a .others + 1) % 2 ^ 64; d3 = a .d3; b5 = a .b5 }))
+
+abbrev pub Counted : Skips → ℕ → Skips → Type 0
+Counted a x r = r ≡ counted a x
