@@ -169,6 +169,7 @@ int main(void)
     print_limit("writing 1059, for each of 400 records", costs.write.ns, " ns", 40, true);
     print_limit("reading 1059, to the plain program", costs.read.to[PLAIN], " times", 2, true);
     print_limit("writing 1059, to the plain program", costs.write.to[PLAIN], " times", 2, true);
+    limits_of_messages();
     free(clean.at);
     return all_met ? 0 : 1;
 }
