@@ -8,7 +8,7 @@ use native.Mathlib.Omega.{arith}
 use borrow.Author.Tests.{eqb-true, eq-eqb}
 use lib.ListN.{length}
 use lib.Dec.{eqb}
-use Rattle.bits.specs.Told.{Accepted, Refused}
+use Rattle.bits.specs.Told.{Accepted, Refused, andThen}
 use Rattle.bits.specs.Field.{Reading, reading}
 use Rattle.bits.specs.Fields.{total, Holds, Fit}
 use Rattle.bits.proofs.FieldsLaws.{total-none, holds-none, fit-none, total-append, holds-append, fit-append}
@@ -67,6 +67,11 @@ module _ {A : Type 0} (F : Format A) where
   pub each-none : (s : List ℕ) (p : ℕ) → readEach F 0 s p ≡ Accepted (reading [] p)
   unfolding readEach
   each-none s p = refl
+
+  pub each-next : (n : ℕ) (s : List ℕ) (p : ℕ)
+      → readEach F (suc n) s p ≡ andThen (F .reads s p) (λ x. andThen (readEach F n s (x .next)) (λ xs. Accepted (reading (x .value ∷ xs .value) (xs .next))))
+  unfolding readEach
+  each-next n s p = refl
 
   pub each-more : (n : ℕ) (s : List ℕ) {p q r : ℕ} {x : A} {xs : List A} → F .reads s p ≡ Accepted (reading x q) → readEach F n s q ≡ Accepted (reading xs r)
       → readEach F (suc n) s p ≡ Accepted (reading (x ∷ xs) r)

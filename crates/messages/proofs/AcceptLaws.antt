@@ -7,7 +7,7 @@ use native.Mathlib.Omega.{arith}
 use lib.ListN.{length}
 use Rattle.bits.specs.Told.{Told, Accepted, Refused, andThen}
 use Rattle.bits.specs.Field.{field, Reading, reading, readBy}
-use Rattle.bits.proofs.ReadLaws.{reads-value, read-tells}
+use Rattle.bits.proofs.ReadLaws.{read-tells}
 
 -- a step that was accepted came behind one that was
 pub then-accepted : {A B : Type 0} (t : Told A) (f : A → Told B) {b : B} → andThen t f ≡ Accepted b → (a : A) × (t ≡ Accepted a) × (f a ≡ Accepted b)
@@ -31,7 +31,3 @@ module _ {A B : Type 0} (meaning : ℕ → A) (s : List ℕ) (p w : ℕ) (f : Re
       let r = then-accepted (readBy meaning s p w) f e in
       let t = read-tells meaning s p w (r .1) in
       record { few = t .few; within = t .within; then = ap f (sym (t .is)) ∙ r .2 }
-
-  -- a field that is there is read
-  pub field-then : length s ≤ 1023 → 1 ≤ w → w ≤ 64 → p + w ≤ length s * 8 → andThen (readBy meaning s p w) f ≡ f (reading (meaning (field s p w)) (p + w))
-  field-then few low high h = rw (reads-value meaning s p w few low high h)

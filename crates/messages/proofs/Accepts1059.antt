@@ -1,28 +1,23 @@
--- When the bias block of message 1059 is written: the conditions of an accepted call, in both directions; and that what it writes fits its fields. Assumes nothing.
+-- When the bias block of message 1059 is written: the conditions of an accepted call, in both directions. Assumes nothing.
 use mathlib.Core.Path.{_≡_, refl}
-use mathlib.Core.Bool.{true, cond, not, Bool, false}
+use mathlib.Core.Bool.{true, cond, not}
 use mathlib.Core.List.{List, [], _∷_}
-use Prim.Native.Nat.{ℕ, suc, _+_, _*_, _≤_, zero, _<_}
-use native.Mathlib.Omega.{arith}
+use Prim.Native.Nat.{ℕ, suc, _+_, _*_, _≤_}
 use borrow.Author.Tests.{ltb-false, le-ltb, eqb-true, eqb-false, eq-eqb, ne-eqb, not-false}
 use lib.ListN.{length}
 use lib.IntN.{ℤ}
 use lib.Dec.{eqb, ltb}
 use Rattle.bits.specs.Told.{Accepted, andThen, tooMany}
-use Rattle.bits.specs.Signed.{fitsTwos, twosBits}
+use Rattle.bits.specs.Signed.{fitsTwos}
 use Rattle.bits.specs.Outcome.{outcome}
-use Rattle.bits.specs.Fields.{total, putAll, Fit, bits}
-use Rattle.bits.proofs.FieldsLaws.{fit-append, fit-none, fit-next}
-use Rattle.bits.proofs.SignedLaws.{twos-bits-lt}
+use Rattle.bits.specs.Fields.{total, putAll}
 use Rattle.messages.specs.Every.{Every}
 use Rattle.messages.specs.Records.{Rec1059, rec1059, satelliteOf, signalOf1059, biasOf1059, records1059}
 use Rattle.messages.specs.Signals1059.{isEdition, knownEdition, isSignal1059}
-use Rattle.messages.specs.Writer.{fine, firstFault, firstRepeat, keep}
-use Rattle.messages.specs.Write1059.{fault1059, samePair, crowded, present, fields1059, refusedRecords1059, refused1059, write1059, ofSatellite, biasFields, satelliteFields, satellitesFrom}
+use Rattle.messages.specs.Writer.{fine, firstFault, firstRepeat}
+use Rattle.messages.specs.Write1059.{fault1059, samePair, crowded, present, fields1059, refusedRecords1059, refused1059, write1059}
 use Rattle.messages.proofs.AcceptLaws.{then-accepted, not-refused}
 use Rattle.messages.proofs.WriterLaws.{run-put, run-accepted}
-use Rattle.messages.proofs.Signals1059Laws.{signal-fits}
-use Rattle.messages.proofs.Biases1059.{Own}
 
 -- ---- faults
 
@@ -124,61 +119,3 @@ module _ (e : ℕ) (s : List ℕ) (p : ℕ) (sats gs : List ℕ) (zs : List ℤ)
         records = fine-records e (records1059 sats gs zs) (d .1);
         within = r .1;
       }
-
--- ---- what is written fits its fields: the records of one satellite
-
--- they are its own, and what a call does not refuse among all it does not refuse among them
-pub of-writable : (e c : ℕ) (rs : List Rec1059) → Every (Writable e) rs → Every (Writable e) (ofSatellite c rs) × Every (Own c) (ofSatellite c rs)
-unfolding ofSatellite
-of-writable e c [] w = (tt, tt)
-of-writable e c (rec1059 b g z ∷ rs) w = go (eqb b c) refl (of-writable e c rs (w .1))
-  where
-    go : (q : Bool) → eqb b c ≡ q → Every (Writable e) (ofSatellite c rs) × Every (Own c) (ofSatellite c rs)
-        → Every (Writable e) (keep q (rec1059 b g z) (ofSatellite c rs)) × Every (Own c) (keep q (rec1059 b g z) (ofSatellite c rs))
-    go true q r = ((w .0, r .0), ((eqb-true b c q, w .0 .fits), r .1))
-    go false q r = r
-
-fit-biases : (e : ℕ) (rs : List Rec1059) → Every (Writable e) rs → Fit (biasFields rs)
-unfolding biasFields
-fit-biases e [] w = fit-none
-fit-biases e (rec1059 a g z ∷ rs) w =
-    let v = twosBits 14 z in
-    fit-next 5 g (bits 14 v ∷ biasFields rs) (signal-fits e g (w .0 .known)) (fit-next 14 v (biasFields rs) (twos-bits-lt 14 (omega arith) z (w .0 .fits)) (fit-biases e rs (w .1)))
-
-fit-satellite : (e a : ℕ) (rs : List Rec1059) → a < 64 → length rs ≤ 31 → Every (Writable e) rs → Fit (satelliteFields a rs)
-unfolding satelliteFields
-fit-satellite e a [] l f w = fit-none
-fit-satellite e a (r ∷ rs) l f w =
-    let n = length (r ∷ rs) in
-    fit-next 6 a (bits 5 n ∷ biasFields (r ∷ rs)) (omega arith) (fit-next 5 n (biasFields (r ∷ rs)) (omega arith) (fit-biases e (r ∷ rs) w))
-
--- ---- what is written fits its fields: the block
-
-thin : (a n : ℕ) (rs : List Rec1059) → crowded a (suc n) rs ≡ fine → (length (ofSatellite a rs) ≤ 31) × (crowded (suc a) n rs ≡ fine)
-unfolding crowded
-thin a n rs h =
-    let r = not-refused 6 (a ∷ []) (ltb 31 (length (ofSatellite a rs))) _ h in
-    (ltb-false 31 (length (ofSatellite a rs)) (r .0), r .1)
-
-fit-satellites : (e n a : ℕ) (rs : List Rec1059) → a + n ≤ 64 → crowded a n rs ≡ fine → Every (Writable e) rs → Fit (satellitesFrom a n rs)
-unfolding satellitesFrom
-fit-satellites e zero a rs l c w = fit-none
-fit-satellites e (suc n) a rs l c w =
-    let t = thin a n rs c in
-    fit-append (satelliteFields a (ofSatellite a rs)) (satellitesFrom (suc a) n rs)
-    (fit-satellite e a (ofSatellite a rs) (omega arith) (t .0) (of-writable e a rs w .0))
-    (fit-satellites e n (suc a) rs (omega arith) (t .1) w)
-
-present-le : (a n : ℕ) (rs : List Rec1059) → present a n rs ≤ n
-unfolding present
-present-le a zero rs = omega arith
-present-le a (suc n) rs = go (eqb (length (ofSatellite a rs)) 0) (present-le (suc a) n rs)
-  where
-    go : (b : Bool) → present (suc a) n rs ≤ n → cond b 0 1 + present (suc a) n rs ≤ suc n
-    go true h = omega arith
-    go false h = omega arith
-
-pub fields-fit : (e : ℕ) (rs : List Rec1059) → Fine e rs → Fit (fields1059 rs)
-unfolding fields1059
-fields-fit e rs w =
-    fit-next 6 (present 0 64 rs) (satellitesFrom 0 64 rs) (omega (arith, present-le 0 64 rs, w .fewer)) (fit-satellites e 64 0 rs (omega arith) (w .thin) (w .clean))

@@ -1,8 +1,8 @@
 -- When the bias block of message 1230 is written: the conditions of an accepted call, in both directions. Assumes nothing.
-use mathlib.Core.Path.{_≡_, refl}
-use mathlib.Core.Bool.{true, not}
-use mathlib.Core.List.{List, [], _∷_}
-use Prim.Native.Nat.{ℕ, suc, _+_, _*_, _≤_}
+use mathlib.Core.Path.{_≡_}
+use mathlib.Core.Bool.{not}
+use mathlib.Core.List.{List, []}
+use Prim.Native.Nat.{ℕ, _+_, _*_, _≤_}
 use borrow.Author.Tests.{ltb-false, le-ltb, eqb-true, eq-eqb, not-false}
 use lib.ListN.{length}
 use lib.IntN.{ℤ}
@@ -10,26 +10,11 @@ use lib.Dec.{eqb, ltb}
 use Rattle.bits.specs.Told.{Accepted}
 use Rattle.bits.specs.Outcome.{outcome}
 use Rattle.bits.specs.Fields.{total, putAll}
-use Rattle.messages.specs.Every.{Every}
 use Rattle.messages.specs.Records.{records1230}
-use Rattle.messages.specs.Read1230.{maskSignals}
 use Rattle.messages.specs.Writer.{fine, firstFault, firstRepeat}
-use Rattle.messages.specs.Write1230.{isIn, fault1230, fields1230, refused1230, write1230}
+use Rattle.messages.specs.Write1230.{fault1230, fields1230, refused1230, write1230}
 use Rattle.messages.proofs.AcceptLaws.{then-accepted, not-refused}
 use Rattle.messages.proofs.WriterLaws.{run-put, run-accepted}
-
--- ---- faults
-
--- a signal that is not refused
-abbrev pub InMask : ℕ → Type 0
-InMask g = isIn g maskSignals ≡ true
-
-pub masked-fine : (i : ℕ) (gs : List ℕ) → Every InMask gs → firstFault fault1230 i gs ≡ fine
-unfolding firstFault fault1230
-masked-fine i [] w = refl
-masked-fine i (g ∷ gs) w = rw (w .0) (masked-fine (suc i) gs (w .1))
-
--- ---- the call
 
 module _ (s : List ℕ) (p : ℕ) (gs : List ℕ) (zs : List ℤ) where
   pub record Writes : Type 0 where

@@ -1,10 +1,10 @@
 -- The bias block of message 1059, of the calls: what one writes another reads into lent lists, and what one reads another writes back to the same bits. Assumes nothing.
-use mathlib.Core.Path.{_≡_, refl, sym, ap, ap₂, subst, _∙_}
+use mathlib.Core.Path.{_≡_, refl, sym, ap, _∙_}
 use mathlib.Core.Bool.{not}
 use mathlib.Core.List.{List, [], _∷_, map}
 use Prim.Native.Nat.{ℕ, _+_, _-_, _*_, _≤_}
 use native.Mathlib.Omega.{arith}
-use borrow.Author.Tests.{ltb-false, le-ltb, eq-eqb}
+use borrow.Author.Tests.{le-ltb, eq-eqb}
 use lib.ListN.{length, take, length-map}
 use lib.Seq.{take-at}
 use lib.IntN.{ℤ}
@@ -14,18 +14,17 @@ use Rattle.bits.specs.Field.{Reading, reading}
 use Rattle.bits.specs.Outcome.{Outcome, refusing}
 use Rattle.messages.specs.Reader.{roomFor}
 use Rattle.messages.specs.Records.{Rec1059, satelliteOf, signalOf1059, biasOf1059, records1059, Counted, counted}
-use Rattle.messages.specs.Read1059.{block1059, filled1059, read1059}
-use Rattle.messages.specs.Satellites1059.{Sat, satellites1059, recordsOf, Regular}
+use Rattle.messages.specs.Read1059.{readBlock1059, filled1059, read1059}
 use Rattle.messages.specs.Write1059.{write1059}
+use Rattle.messages.specs.Layout1059.{Sat, flat1059}
+use Rattle.messages.specs.Satellites1059.{satellites1059, Regular}
 use Rattle.messages.specs.InOrder.{inOrder1059}
 use Rattle.messages.specs.WrittenBack.{WrittenBack}
 use Rattle.messages.proofs.AcceptLaws.{not-refused, then-accepted}
 use Rattle.messages.proofs.Accepts1059.{call-accepted}
 use Rattle.messages.proofs.InOrderLaws.{in-order-1059, length-records}
 use Rattle.messages.proofs.KeepLaws.{leaves-1059}
-use Rattle.messages.proofs.ReadBack1059.{block-again-1059}
-use Rattle.messages.proofs.Satellites1059Laws.{block-by-satellite}
-use Rattle.messages.proofs.SameBits1059.{block-back-1059}
+use Rattle.messages.proofs.Round1059.{block-again-1059, block-back-1059}
 
 -- ---- what is written reads back
 
@@ -48,7 +47,7 @@ module _ (s : List ℕ) (p : ℕ) (a b : List ℕ) (c : List ℤ) where
   -- an accepted call read n records, up to bit q, into the first places of the lists
   record Reads (n q : ℕ) : Type 0 where
     pub records : List Rec1059
-    pub is : block1059 s p ≡ Accepted (reading records q)
+    pub is : readBlock1059 s p ≡ Accepted (reading records q)
     pub count : length records ≡ n
     pub lists : read1059 s p a b c ≡ filled1059 a b c (reading records q)
 
@@ -64,7 +63,7 @@ module _ (s : List ℕ) (p : ℕ) (a b : List ℕ) (c : List ℤ) where
       let u = not-refused 9 [] (ltb 1023 (length s)) _ (l .1) in
       let v = not-refused 9 [] (not (eqb (length a) (length b))) _ (u .1) in
       let w = not-refused 9 [] (not (eqb (length a) (length c))) _ (v .1) in
-      let x = then-accepted (block1059 s p) (roomFor (length a)) (w .1) in
+      let x = then-accepted (readBlock1059 s p) (roomFor (length a)) (w .1) in
       let y = not-refused 8 (length (x .0 .value) ∷ []) (ltb (length a) (length (x .0 .value))) _ (x .2) in
       let same : l .0 ≡ x .0 = cc (y .1) in
       let end : l .0 .next ≡ q = ap (λ (k : Counted). k .end) (l .2) in
@@ -81,12 +80,13 @@ module _ (s : List ℕ) (p : ℕ) (a b : List ℕ) (c : List ℤ) where
       → (t : List ℕ) (r : ℕ) → length t ≤ 1023 → r + (q - p) ≤ length t * 8
       → WrittenBack s p q r
       (write1059 e t r (take n (read1059 s p a b c .areas .0)) (take n (read1059 s p a b c .areas .1)) (take n (read1059 s p a b c .areas .2)))
+  unfolding readBlock1059
   written-back-1059 e {n} {q} h xs by-satellite regular t r few room =
       let d = call-reads h in
       let rs = d .records in
-      let i : Accepted (reading rs q) ≡ Accepted (reading (recordsOf xs) q) = sym (d .is) ∙ block-by-satellite s p ∙ rw by-satellite in
-      let j : reading rs q ≡ reading (recordsOf xs) q = cc i in
-      let same : rs ≡ recordsOf xs = ap (λ (x : Reading (List Rec1059)). x .value) j in
+      let i : Accepted (reading rs q) ≡ Accepted (reading (flat1059 xs) q) = sym (d .is) ∙ rw by-satellite in
+      let j : reading rs q ≡ reading (flat1059 xs) q = cc i in
+      let same : rs ≡ flat1059 xs = ap (λ (x : Reading (List Rec1059)). x .value) j in
       let sats : take n (read1059 s p a b c .areas .0) ≡ map satelliteOf rs = ap (λ (x : Outcome Counted (List ℕ × List ℕ × List ℤ)). take n (x .areas .0)) (d .lists) ∙ take-at (map satelliteOf rs) _ n (length-map rs satelliteOf ∙ d .count) in
       let gs : take n (read1059 s p a b c .areas .1) ≡ map signalOf1059 rs = ap (λ (x : Outcome Counted (List ℕ × List ℕ × List ℤ)). take n (x .areas .1)) (d .lists) ∙ take-at (map signalOf1059 rs) _ n (length-map rs signalOf1059 ∙ d .count) in
       let zs : take n (read1059 s p a b c .areas .2) ≡ map biasOf1059 rs = ap (λ (x : Outcome Counted (List ℕ × List ℕ × List ℤ)). take n (x .areas .2)) (d .lists) ∙ take-at (map biasOf1059 rs) _ n (length-map rs biasOf1059 ∙ d .count) in

@@ -16,7 +16,7 @@ use Rattle.bits.specs.Fields.{total}
 use Rattle.messages.specs.Reader.{roomFor}
 use Rattle.messages.specs.Records.{Rec1230, signalOf1230, biasOf1230, records1230, Counted, counted}
 use Rattle.messages.specs.I16.{OfI16}
-use Rattle.messages.specs.Read1230.{block1230, filled1230, read1230}
+use Rattle.messages.specs.Read1230.{readBlock1230, filled1230, read1230}
 use Rattle.messages.specs.Write1230.{fields1230, write1230}
 use Rattle.messages.specs.InOrder.{inOrder1230}
 use Rattle.messages.specs.WrittenBack.{WrittenBack}
@@ -25,8 +25,7 @@ use Rattle.messages.proofs.Accepts1230.{call-accepted, call-written}
 use Rattle.messages.proofs.ExtentLaws.{block1230-extends}
 use Rattle.messages.proofs.Fields1230Laws.{bits-is}
 use Rattle.messages.proofs.KeepLaws.{leaves-1230}
-use Rattle.messages.proofs.ReadBack1230.{block-again-1230}
-use Rattle.messages.proofs.SameBits1230.{block-back-1230}
+use Rattle.messages.proofs.Round1230.{block-again-1230, block-back-1230}
 
 -- ---- what is written reads back
 
@@ -50,7 +49,7 @@ module _ (s : List ℕ) (p : ℕ) (b : List ℕ) (c : List ℤ) where
   -- an accepted call read n records, up to bit q, into the first places of the lists
   record Reads (n q : ℕ) : Type 0 where
     pub records : List Rec1230
-    pub is : block1230 s p ≡ Accepted (reading records q)
+    pub is : readBlock1230 s p ≡ Accepted (reading records q)
     pub count : length records ≡ n
     pub lists : read1230 s p b c ≡ filled1230 b c (reading records q)
 
@@ -65,7 +64,7 @@ module _ (s : List ℕ) (p : ℕ) (b : List ℕ) (c : List ℤ) where
       let l = left-accepted _ e in
       let u = not-refused 9 [] (ltb 1023 (length s)) _ (l .1) in
       let v = not-refused 9 [] (not (eqb (length b) (length c))) _ (u .1) in
-      let x = then-accepted (block1230 s p) (roomFor (length b)) (v .1) in
+      let x = then-accepted (readBlock1230 s p) (roomFor (length b)) (v .1) in
       let y = not-refused 8 (length (x .0 .value) ∷ []) (ltb (length b) (length (x .0 .value))) _ (x .2) in
       let same : l .0 ≡ x .0 = cc (y .1) in
       let end : l .0 .next ≡ q = ap (λ (k : Counted). k .end) (l .2) in

@@ -14,9 +14,11 @@ use Rattle.bits.specs.Fields.{total}
 use Rattle.bits.proofs.FieldsLaws.{total-append, total-none, total-next}
 use Rattle.messages.specs.Writer.{fine}
 use Rattle.messages.specs.Records.{Rec1059}
-use Rattle.messages.specs.Write1059.{ofSatellite, crowded, present, satelliteFields, satellitesFrom, fields1059}
-use Rattle.messages.specs.StepsWrite1059.{sumOf, crowdedIn, presentIn}
+use Rattle.messages.specs.Layout1059.{ofSatellite}
+use Rattle.messages.specs.Write1059.{crowded, present, fields1059}
+use Rattle.messages.specs.StepsWrite1059.{satelliteFields, satellitesFrom, sumOf, crowdedIn, presentIn}
 use Rattle.messages.proofs.Fields1059Laws.{total-satellite}
+use Rattle.messages.proofs.Layout1059Laws.{fields-laid}
 
 -- ---- the counts from satellite a on, as the code goes through them
 
@@ -96,5 +98,4 @@ module _ (rs : List Rec1059) (cs : List ℕ) (all : length cs ≡ 64) (e : (a : 
 
   -- the bits of the block
   pub bits-is : total (fields1059 rs) ≡ 6 + presentIn cs * 11 + sumOf cs * 19
-  unfolding fields1059
-  bits-is = omega (arith, total-next 6 (present 0 64 rs) (satellitesFrom 0 64 rs), total-is 64 0 refl)
+  bits-is = omega (arith, ap total (fields-laid rs), total-next 6 (present 0 64 rs) (satellitesFrom 0 64 rs), total-is 64 0 refl)

@@ -1,43 +1,27 @@
 -- How far a block that was read extends, and how many records it can have. Assumes nothing.
-use mathlib.Core.Path.{_≡_, refl, ap}
-use mathlib.Core.List.{List, [], _∷_, _++_}
+use mathlib.Core.Path.{_≡_, refl, ap, _∙_}
+use mathlib.Core.List.{List}
 use Prim.Native.Nat.{ℕ, _+_, _*_, _≤_}
 use native.Mathlib.Omega.{arith}
-use lib.ListN.{length, length-append}
+use lib.ListN.{length}
 use Rattle.bits.specs.Told.{Told, Accepted, Refused, andThen}
-use Rattle.bits.specs.Field.{Reading, field, readUnsigned}
-use Rattle.bits.specs.Fields.{total, Holds, bits}
-use Rattle.bits.proofs.FieldsLaws.{total-append, total-none, total-next, holds-first}
+use Rattle.bits.specs.Field.{Reading, reading, field, readUnsigned}
+use Rattle.bits.proofs.FieldsLaws.{holds-first}
 use Rattle.bits.proofs.ReadLaws.{read-tells}
-use Rattle.messages.specs.Every.{Every}
+use Rattle.formats.specs.Format.{fieldsEach}
 use Rattle.messages.specs.Records.{Rec1059, Rec1230}
-use Rattle.messages.specs.Read1059.{block1059}
-use Rattle.messages.specs.Read1230.{maskSignals, masked, biasesAt, block1230}
-use Rattle.messages.specs.Write1059.{biasFields}
-use Rattle.messages.specs.Satellites1059.{Sat, recordsOf}
-use Rattle.messages.proofs.Fields1059Laws.{total-biases}
-use Rattle.messages.proofs.Satellites1059Laws.{Sound, satFields, block-stands, block-satellites}
+use Rattle.messages.specs.Layout1059.{satellite1059, block1059, flat1059}
+use Rattle.messages.specs.Layout1230.{maskSignals}
+use Rattle.messages.specs.Read1059.{readBlock1059}
+use Rattle.messages.specs.Read1230.{readBlock1230}
+use Rattle.messages.specs.StepsRead1230.{masked, biasesAt}
+use Rattle.messages.proofs.AcceptLaws.{then-accepted, field-accepted}
+use Rattle.messages.proofs.Layout1059Laws.{block-good}
+use Rattle.messages.proofs.Layout1230Laws.{block-same}
+use Rattle.messages.proofs.Fits1059Laws.{block-tells}
 use Rattle.messages.proofs.Read1230Laws.{biases-tell, masked-length}
 
 -- ---- message 1059: 6 bits, 11 a satellite and 19 a record
-
--- satellites, of which each has at most 31 records
-pub record Taken (xs : List Sat) : Type 0 where
-  pub bits : total (satFields xs) ≡ length xs * 11 + length (recordsOf xs) * 19
-  pub most : length (recordsOf xs) ≤ length xs * 31
-
-pub taken : (xs : List Sat) → Every Sound xs → Taken xs
-unfolding satFields recordsOf
-taken [] o = record { bits = omega (arith, total-none); most = omega arith }
-taken (x ∷ xs) o =
-    let t = taken xs (o .1) in
-    let l = length-append (x .records) (recordsOf xs) in
-    let k = length (x .records) in
-    let fs = biasFields (x .records) ++ satFields xs in
-    record {
-      bits = omega (arith, total-next 6 (x .number) (bits 5 k ∷ fs), total-next 5 k fs, total-append (biasFields (x .records)) (satFields xs), total-biases (x .records), t .bits);
-      most = omega (arith, t .most, o .0 .thin);
-    }
 
 -- n satellites from bit p on, with a count of records and an end
 pub record Extent1059 (s : List ℕ) (p n : ℕ) (r : Reading (List Rec1059)) : Type 0 where
@@ -46,22 +30,27 @@ pub record Extent1059 (s : List ℕ) (p n : ℕ) (r : Reading (List Rec1059)) : 
   pub within : r .next ≤ length s * 8
   pub limit : length s ≤ 1023
 
-pub block1059-extends : (s : List ℕ) (p : ℕ) {r : Reading (List Rec1059)} → block1059 s p ≡ Accepted r → Extent1059 s (p + 6) (field s p 6) r
+pub block1059-extends : (s : List ℕ) (p : ℕ) {r : Reading (List Rec1059)} → readBlock1059 s p ≡ Accepted r → Extent1059 s (p + 6) (field s p 6) r
+unfolding readBlock1059
 block1059-extends s p {r} e =
-    let x = block-satellites s p {q = r .next} {rs = r .value} e in
-    let b = block-stands s p (x .1) in
-    let t = taken (x .0) (b .sound) in
-    let n : length (recordsOf (x .0)) ≡ length (r .value) = ap length (x .2) in
-    let k : field s p 6 ≡ length (x .0) = holds-first s p 6 (length (x .0)) (satFields (x .0)) (b .holds) in
+    let t = then-accepted (block1059 .reads s p) _ e in
+    let xs = t .0 .value in
+    let x = block-good .faithful .there s p (t .0) (t .1) in
+    let b = block-tells xs (x .fitting) in
+    let i : reading (flat1059 xs) (t .0 .next) ≡ r = cc (t .2) in
+    let m : length (flat1059 xs) ≡ length (r .value) = ap (λ (y : Reading (List Rec1059)). length (y .value)) i in
+    let q : t .0 .next ≡ r .next = ap (λ (y : Reading (List Rec1059)). y .next) i in
+    let k : field s p 6 ≡ length xs = holds-first s p 6 (length xs) (fieldsEach satellite1059 xs) (x .holds) in
+    let w : t .0 .next ≤ length s * 8 = x .within (omega (arith, b .bits)) in
     record {
-      end = omega (arith, t .bits, b .ends, total-next 6 (length (x .0)) (satFields (x .0)));
-      few = omega (arith, t .most);
-      within = b .within;
-      limit = b .few;
+      end = omega (arith, b .bits, x .ends, m, q, k);
+      few = omega (arith, b .records, m, k);
+      within = omega (arith, w, q);
+      limit = field-accepted (λ v. v) s p 6 _ (then-accepted _ _ (t .1) .1) .few;
     }
 
 -- 31 records a satellite at most, in 1,023 bytes at most
-pub suffices-1059 : (s : List ℕ) (p : ℕ) {r : Reading (List Rec1059)} → block1059 s p ≡ Accepted r → length (r .value) ≤ 422
+pub suffices-1059 : (s : List ℕ) (p : ℕ) {r : Reading (List Rec1059)} → readBlock1059 s p ≡ Accepted r → length (r .value) ≤ 422
 suffices-1059 s p e =
     let t = block1059-extends s p e in
     omega (arith, t .end, t .few, t .within, t .limit)
@@ -73,9 +62,8 @@ pub record Extent1230 (s : List ℕ) (p : ℕ) (r : Reading (List Rec1230)) : Ty
   pub few : length (r .value) ≤ 4
   pub within : r .next ≤ length s * 8
 
-pub block1230-extends : (s : List ℕ) (p : ℕ) {r : Reading (List Rec1230)} → block1230 s p ≡ Accepted r → Extent1230 s p r
-unfolding block1230
-block1230-extends s p {r} e = go (readUnsigned s p 4) refl e
+pub block1230-extends : (s : List ℕ) (p : ℕ) {r : Reading (List Rec1230)} → readBlock1230 s p ≡ Accepted r → Extent1230 s p r
+block1230-extends s p {r} e = go (readUnsigned s p 4) refl (block-same s p ∙ e)
   where
     go : (t : Told (Reading ℕ)) → readUnsigned s p 4 ≡ t → andThen t (λ m. biasesAt s (masked maskSignals (m .value)) (m .next)) ≡ Accepted r → Extent1230 s p r
     go (Refused x carried) f e = let z : _≡_ {A = ℕ} 0 1 = cc in absurd (omega arith)
@@ -86,5 +74,5 @@ block1230-extends s p {r} e = go (readUnsigned s p 4) refl e
         let l = masked-length (m .value) in
         record { end = omega (arith, u .0, u .1); few = omega (arith, u .0); within = u .2 }
 
-pub suffices-1230 : (s : List ℕ) (p : ℕ) {r : Reading (List Rec1230)} → block1230 s p ≡ Accepted r → length (r .value) ≤ 4
+pub suffices-1230 : (s : List ℕ) (p : ℕ) {r : Reading (List Rec1230)} → readBlock1230 s p ≡ Accepted r → length (r .value) ≤ 4
 suffices-1230 s p e = block1230-extends s p e .few

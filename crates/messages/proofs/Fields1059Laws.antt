@@ -12,7 +12,8 @@ use Rattle.bits.specs.Signed.{twosBits}
 use Rattle.bits.specs.Fields.{bits, total}
 use Rattle.bits.proofs.FieldsLaws.{total-none, total-next}
 use Rattle.messages.specs.Records.{Rec1059, rec1059}
-use Rattle.messages.specs.Write1059.{ofSatellite, biasFields, satelliteFields, satellitesFrom}
+use Rattle.messages.specs.Layout1059.{ofSatellite}
+use Rattle.messages.specs.StepsWrite1059.{biasFields, satelliteFields, satellitesFrom}
 
 -- ---- the fields of a satellite, by how many records it has
 

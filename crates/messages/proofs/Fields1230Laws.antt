@@ -1,5 +1,5 @@
 -- The fields of a block of message 1230: its mask, the biases of each signal, and its bits. Assumes nothing.
-use mathlib.Core.Path.{_≡_, refl, ap, _∙_}
+use mathlib.Core.Path.{_≡_, refl, sym, ap, _∙_}
 use mathlib.Core.Logic.{⊎-elim}
 use mathlib.Core.Bool.{Bool, true, false, cond, not}
 use mathlib.Core.List.{List, [], _∷_, _++_}
@@ -14,9 +14,11 @@ use Rattle.bits.specs.Signed.{twosBits}
 use Rattle.bits.specs.Fields.{bits, total}
 use Rattle.bits.proofs.FieldsLaws.{total-append, total-none, total-next}
 use Rattle.messages.specs.Records.{Rec1230, rec1230, records1230}
-use Rattle.messages.specs.Read1230.{maskSignals}
+use Rattle.messages.specs.Layout1230.{maskSignals, ofSignal, maskOf}
 use Rattle.messages.specs.Writer.{fine, keep, firstFault, isAmong}
-use Rattle.messages.specs.Write1230.{isIn, fault1230, ofSignal, maskOf, biasFields16, inMaskOrder, fields1230}
+use Rattle.messages.specs.Write1230.{isIn, fault1230, fields1230}
+use Rattle.messages.specs.StepsWrite1230.{biasFields1230}
+use Rattle.messages.proofs.Layout1230Laws.{fields-laid}
 use Rattle.messages.proofs.RecordLaws.{from1230, next1230, end1230}
 use Rattle.messages.proofs.Signals1230Laws.{known-first, one-of-four}
 
@@ -27,16 +29,16 @@ module _ (g : ℕ) (gs : List ℕ) (zs : List ℤ) (l : length gs ≡ length zs)
   unfolding ofSignal
   kept = ap (ofSignal g) (next1230 gs zs l i h)
 
-  pub bias-here : getD gs i 0 ≡ g → biasFields16 (ofSignal g (from1230 gs zs i)) ≡ bits 16 (twosBits 16 (getD zs i (pos 0))) ∷ biasFields16 (ofSignal g (from1230 gs zs (i + 1)))
-  unfolding biasFields16
-  bias-here e = rw add-one (ap biasFields16 (kept ∙ ap (λ (b : Bool). keep b (getD zs i (pos 0)) (ofSignal g (from1230 gs zs (suc i)))) (eq-eqb (getD gs i 0) g e)))
+  pub bias-here : getD gs i 0 ≡ g → biasFields1230 (ofSignal g (from1230 gs zs i)) ≡ bits 16 (twosBits 16 (getD zs i (pos 0))) ∷ biasFields1230 (ofSignal g (from1230 gs zs (i + 1)))
+  unfolding biasFields1230
+  bias-here e = rw add-one (ap biasFields1230 (kept ∙ ap (λ (b : Bool). keep b (getD zs i (pos 0)) (ofSignal g (from1230 gs zs (suc i)))) (eq-eqb (getD gs i 0) g e)))
 
-  pub bias-later : (getD gs i 0 ≡ g → ⊥) → biasFields16 (ofSignal g (from1230 gs zs i)) ≡ biasFields16 (ofSignal g (from1230 gs zs (i + 1)))
-  bias-later e = rw add-one (ap biasFields16 (kept ∙ ap (λ (b : Bool). keep b (getD zs i (pos 0)) (ofSignal g (from1230 gs zs (suc i)))) (ne-eqb (getD gs i 0) g e)))
+  pub bias-later : (getD gs i 0 ≡ g → ⊥) → biasFields1230 (ofSignal g (from1230 gs zs i)) ≡ biasFields1230 (ofSignal g (from1230 gs zs (i + 1)))
+  bias-later e = rw add-one (ap biasFields1230 (kept ∙ ap (λ (b : Bool). keep b (getD zs i (pos 0)) (ofSignal g (from1230 gs zs (suc i)))) (ne-eqb (getD gs i 0) g e)))
 
-pub bias-none : (g : ℕ) (gs : List ℕ) (zs : List ℤ) (i : ℕ) → length gs ≤ i → biasFields16 (ofSignal g (from1230 gs zs i)) ≡ []
-unfolding ofSignal biasFields16
-bias-none g gs zs i h = ap (λ (rs : List Rec1230). biasFields16 (ofSignal g rs)) (end1230 gs zs i h)
+pub bias-none : (g : ℕ) (gs : List ℕ) (zs : List ℤ) (i : ℕ) → length gs ≤ i → biasFields1230 (ofSignal g (from1230 gs zs i)) ≡ []
+unfolding ofSignal biasFields1230
+bias-none g gs zs i h = ap (λ (rs : List Rec1230). biasFields1230 (ofSignal g rs)) (end1230 gs zs i h)
 
 -- ---- the mask
 
@@ -72,18 +74,17 @@ mask-is gs zs l a b c d ea eb ec ed =
 pub laid : (gs : List ℕ) (zs : List ℤ) (m : ℕ) → maskOf maskSignals (records1230 gs zs) ≡ m
     → fields1230 (records1230 gs zs)
     ≡ (bits 4 m ∷ [])
-    ++ (biasFields16 (ofSignal 2 (records1230 gs zs))
-    ++ (biasFields16 (ofSignal 3 (records1230 gs zs))
-    ++ (biasFields16 (ofSignal 8 (records1230 gs zs)) ++ (biasFields16 (ofSignal 9 (records1230 gs zs)) ++ []))))
-unfolding fields1230 inMaskOrder
-laid gs zs m e = ap (λ (k : ℕ). bits 4 k ∷ inMaskOrder maskSignals (records1230 gs zs)) e
+    ++ (biasFields1230 (ofSignal 2 (records1230 gs zs))
+    ++ (biasFields1230 (ofSignal 3 (records1230 gs zs))
+    ++ (biasFields1230 (ofSignal 8 (records1230 gs zs)) ++ (biasFields1230 (ofSignal 9 (records1230 gs zs)) ++ []))))
+laid gs zs m e = rw (sym e) (fields-laid (records1230 gs zs))
 
 -- ---- bits
 
-total-16 : (zs : List ℤ) → total (biasFields16 zs) ≡ length zs * 16
-unfolding biasFields16
+total-16 : (zs : List ℤ) → total (biasFields1230 zs) ≡ length zs * 16
+unfolding biasFields1230
 total-16 [] = total-none
-total-16 (z ∷ zs) = omega (arith, total-next 16 (twosBits 16 z) (biasFields16 zs), total-16 zs)
+total-16 (z ∷ zs) = omega (arith, total-next 16 (twosBits 16 z) (biasFields1230 zs), total-16 zs)
 
 -- the biases of all four signals
 four : List Rec1230 → ℕ
@@ -106,12 +107,12 @@ all-four k (g ∷ gs) (z ∷ zs) l e =
 
 -- 4 bits of the mask, and 16 of each record
 pub bits-is : (gs : List ℕ) (zs : List ℤ) → length gs ≡ length zs → firstFault fault1230 0 gs ≡ fine → total (fields1230 (records1230 gs zs)) ≡ 4 + length gs * 16
-unfolding fields1230 inMaskOrder four
+unfolding four
 bits-is gs zs l e =
     let rs = records1230 gs zs in
-    let a = biasFields16 (ofSignal 2 rs) in
-    let b = biasFields16 (ofSignal 3 rs) in
-    let c = biasFields16 (ofSignal 8 rs) in
-    let d = biasFields16 (ofSignal 9 rs) in
-    let t : total (fields1230 rs) ≡ 4 + total (a ++ (b ++ (c ++ (d ++ [])))) = total-next 4 (maskOf maskSignals rs) (a ++ (b ++ (c ++ (d ++ [])))) in
+    let a = biasFields1230 (ofSignal 2 rs) in
+    let b = biasFields1230 (ofSignal 3 rs) in
+    let c = biasFields1230 (ofSignal 8 rs) in
+    let d = biasFields1230 (ofSignal 9 rs) in
+    let t : total (fields1230 rs) ≡ 4 + total (a ++ (b ++ (c ++ (d ++ [])))) = ap total (fields-laid rs) ∙ total-next 4 (maskOf maskSignals rs) (a ++ (b ++ (c ++ (d ++ [])))) in
     omega (arith, total-append a (b ++ (c ++ (d ++ []))), total-append b (c ++ (d ++ [])), total-append c (d ++ []), total-append d [], total-none, total-16 (ofSignal 2 rs), total-16 (ofSignal 3 rs), total-16 (ofSignal 8 rs), total-16 (ofSignal 9 rs), all-four 0 gs zs l e)

@@ -1,5 +1,5 @@
 -- Records put in order are as many as they were. Assumes nothing.
-use mathlib.Core.Path.{_≡_, refl, sym, ap, _∙_}
+use mathlib.Core.Path.{_≡_, refl, ap, _∙_}
 use mathlib.Core.Bool.{Bool}
 use mathlib.Core.List.{List, [], _∷_}
 use Prim.Native.Nat.{ℕ, zero, suc, _+_, _≤_, _<_}
@@ -8,11 +8,10 @@ use native.Mathlib.Omega.{arith}
 use borrow.Author.Tests.{eq-eqb, ne-eqb}
 use lib.ListN.{length, length-append}
 use lib.IntN.{ℤ}
-use lib.Dec.{eqb}
 use Rattle.messages.specs.Every.{Every}
 use Rattle.messages.specs.Records.{Rec1059, rec1059, records1059}
 use Rattle.messages.specs.Writer.{keep}
-use Rattle.messages.specs.Write1059.{ofSatellite}
+use Rattle.messages.specs.Layout1059.{ofSatellite}
 use Rattle.messages.specs.InOrder.{recordsFrom, inOrder1059}
 use Rattle.messages.proofs.Accepts1059.{Writable}
 

@@ -12,11 +12,11 @@ use lib.Seq.{drop-cons, getD-set-same, getD-set-other}
 use lib.IntN.{ℤ, pos}
 use Rattle.bits.specs.Signed.{twosBits}
 use Rattle.bits.specs.Fields.{bits}
-use Rattle.messages.specs.StepsWrite1059.{placeOf, nextOf, countOf, sumOf, Links, Linked}
+use Rattle.messages.specs.StepsWrite1059.{placeOf, nextOf, countOf, sumOf, Links, Linked, biasFields, satelliteFields}
 use Rattle.messages.specs.Records.{Rec1059, rec1059, records1059}
 use Rattle.messages.specs.Writer.{keep}
-use Rattle.messages.specs.Write1059.{ofSatellite, biasFields, satelliteFields}
-use Rattle.messages.proofs.PutLaws.{Left, left-all, left-as}
+use Rattle.messages.specs.Layout1059.{ofSatellite}
+use Rattle.formats.proofs.PutLaws.{Left, left-all, left-as}
 use Rattle.messages.proofs.RecordLaws.{from1059, next1059, end1059}
 use Rattle.messages.proofs.Fields1059Laws.{fields-some, fields-none}
 

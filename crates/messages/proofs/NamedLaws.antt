@@ -3,7 +3,7 @@ use mathlib.Core.Path.{_≡_, refl}
 use mathlib.Core.List.{[], _∷_, map}
 use Rattle.messages.specs.Letters.{C, D, P}
 use Rattle.messages.specs.Signals.{sig, At, None, glo, gps, signalOf, numberOf}
-use Rattle.messages.specs.Read1230.{maskSignals}
+use Rattle.messages.specs.Layout1230.{maskSignals}
 
 pub mask-is-glo : map (signalOf glo) maskSignals ≡ At (sig 1 C) ∷ At (sig 1 P) ∷ At (sig 2 C) ∷ At (sig 2 P) ∷ []
 unfolding glo signalOf

@@ -1,5 +1,5 @@
 -- Records of message 1059 that repeat the satellite and signal of an earlier one, found by a word of bits for each satellite. Assumes nothing.
-use mathlib.Core.Path.{_≡_, refl, sym, ap, subst, _∙_}
+use mathlib.Core.Path.{_≡_, refl, sym, ap, _∙_}
 use mathlib.Core.Bool.{Bool, true, false, cond, _&&_}
 use mathlib.Core.List.{List, [], _∷_}
 use Prim.Native.Nat.{ℕ, zero, suc, _+_, _/_, _%_, _^_, _≤_, _<_}
@@ -13,7 +13,7 @@ use lib.Bits.{bitOr, or-shr, or-mod, or-zero-l, or-zero-r, or-self}
 use lib.ListN.{length, getD, set, replicate, getD-replicate}
 use lib.Seq.{getD-set-same, getD-set-other}
 use lib.IntN.{ℤ, pos}
-use Rattle.bits.specs.Told.{Told, duplicate}
+use Rattle.bits.specs.Told.{duplicate}
 use Rattle.messages.specs.Records.{Rec1059, rec1059, records1059}
 use Rattle.messages.specs.StepsColumns.{inMask}
 use Rattle.messages.specs.Writer.{fine, isAmong, firstRepeat}

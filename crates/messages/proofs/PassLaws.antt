@@ -7,9 +7,8 @@ use native.Mathlib.Omega.{arith}
 use lib.ListN.{length, length-append}
 use Rattle.bits.specs.Told.{Told, Accepted, Refused, andThen}
 use Rattle.bits.specs.Field.{Reading, reading}
-use Rattle.messages.specs.Reader.{before, many}
+use Rattle.messages.specs.StepsRead.{before, many, counts, recordsIn, Suffices, Stored}
 use Rattle.messages.specs.Records.{Counted, counted}
-use Rattle.messages.specs.StepsRead.{counts, recordsIn, Suffices, Stored}
 
 -- what t reads, and behind it what is read from there on
 abbrev pub chain : {A : Type 0} → Told (Reading (List A)) → (ℕ → Told (Reading (List A))) → Told (Reading (List A))

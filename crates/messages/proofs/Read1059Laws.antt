@@ -14,10 +14,11 @@ use Rattle.bits.specs.Field.{Reading, reading, missing, cutAt, readUnsigned, fi
 use Rattle.bits.specs.Outcome.{Outcome, outcome, refusing}
 use Rattle.bits.specs.Signed.{twosOf}
 use Rattle.bits.proofs.ReadLaws.{reads-value, reads-short}
-use Rattle.messages.specs.Reader.{many}
+use Rattle.messages.specs.StepsRead.{many, Lists1059, lists1059, put1059, counts, Stored}
 use Rattle.messages.specs.Records.{Rec1059, Counted, counted, rec1059}
-use Rattle.messages.specs.Read1059.{satelliteAt, block1059, filled1059, read1059, biasAt}
-use Rattle.messages.specs.StepsRead.{Lists1059, lists1059, put1059, counts, Stored}
+use Rattle.messages.specs.StepsRead1059.{satelliteAt, biasAt}
+use Rattle.messages.specs.Read1059.{readBlock1059, filled1059, read1059}
+use Rattle.messages.proofs.Layout1059Laws.{block-same}
 use Rattle.messages.proofs.CallLaws.{Call}
 use Rattle.messages.proofs.StoreLaws.{put1059-front}
 use Rattle.messages.proofs.PassLaws.{counts-short, counted-tells, stored-one}
@@ -160,13 +161,11 @@ few-more s p few i e =
 
 -- ---- the block, by its satellite count
 
-pub block-cut : (s : List ℕ) (p : ℕ) {carried : List ℕ} → readUnsigned s p 6 ≡ Refused 1 carried → block1059 s p ≡ Refused 1 carried
-unfolding block1059
-block-cut s p e = rw e
+pub block-cut : (s : List ℕ) (p : ℕ) {carried : List ℕ} → readUnsigned s p 6 ≡ Refused 1 carried → readBlock1059 s p ≡ Refused 1 carried
+block-cut s p e = sym (block-same s p) ∙ rw e
 
-pub block-read : (s : List ℕ) (p : ℕ) {n q : ℕ} → readUnsigned s p 6 ≡ Accepted (reading n q) → block1059 s p ≡ many (satelliteAt s) n q
-unfolding block1059
-block-read s p e = rw e
+pub block-read : (s : List ℕ) (p : ℕ) {n q : ℕ} → readUnsigned s p 6 ≡ Accepted (reading n q) → readBlock1059 s p ≡ many (satelliteAt s) n q
+block-read s p e = sym (block-same s p) ∙ rw e
 
 -- ---- the call
 
@@ -187,7 +186,7 @@ module _ (s : List ℕ) (p : ℕ) (sats gs : List ℕ) (zs : List ℤ) where
     unfolding read1059
     uneven-2 e d = rw (le-ltb _ _ few, eq-eqb _ _ e, ne-eqb _ _ d)
 
-    pub call1059 : length sats ≡ length gs → length sats ≡ length zs → {t : Told (Reading (List Rec1059))} → block1059 s p ≡ t
+    pub call1059 : length sats ≡ length gs → length sats ≡ length zs → {t : Told (Reading (List Rec1059))} → readBlock1059 s p ≡ t
         → Call put1059 outcomeOf (lists1059 sats gs zs) (length sats) t (read1059 s p sats gs zs)
     unfolding read1059
     call1059 d e b =

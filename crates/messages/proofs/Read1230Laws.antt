@@ -15,10 +15,12 @@ use Rattle.bits.specs.Outcome.{Outcome, outcome, refusing}
 use Rattle.bits.specs.Signed.{twosOf}
 use Rattle.bits.proofs.ReadLaws.{reads-value, reads-short}
 use Rattle.messages.specs.Records.{Rec1230, Counted, counted, rec1230}
-use Rattle.messages.specs.Read1230.{maskSignals, masked, biasesAt, block1230, filled1230, read1230}
-use Rattle.messages.specs.StepsRead.{Lists1230, lists1230, put1230, counts, Suffices, Stored}
-use Rattle.messages.specs.Reader.{before}
+use Rattle.messages.specs.Layout1230.{maskSignals}
+use Rattle.messages.specs.StepsRead1230.{masked, biasesAt}
+use Rattle.messages.specs.Read1230.{readBlock1230, filled1230, read1230}
+use Rattle.messages.specs.StepsRead.{Lists1230, lists1230, put1230, counts, Suffices, Stored, before}
 use Rattle.messages.specs.Writer.{keep}
+use Rattle.messages.proofs.Layout1230Laws.{block-same}
 use Rattle.messages.proofs.CallLaws.{Call}
 use Rattle.messages.proofs.StoreLaws.{put1230-front, put1230-on, Doing, left-as, step-suffices, step-read, step-stored}
 use Rattle.messages.proofs.ArmLaws.{IsRefused}
@@ -167,13 +169,11 @@ module _ (s l : List ℕ) (k m p : ℕ) (is : l ≡ maskSignals) (h : k < 4) (bi
 
 -- ---- the block, by its mask
 
-pub block-cut : (s : List ℕ) (p : ℕ) {carried : List ℕ} → readUnsigned s p 4 ≡ Refused 1 carried → block1230 s p ≡ Refused 1 carried
-unfolding block1230
-block-cut s p e = rw e
+pub block-cut : (s : List ℕ) (p : ℕ) {carried : List ℕ} → readUnsigned s p 4 ≡ Refused 1 carried → readBlock1230 s p ≡ Refused 1 carried
+block-cut s p e = sym (block-same s p) ∙ rw e
 
-pub block-read : (s : List ℕ) (p : ℕ) {m q : ℕ} → readUnsigned s p 4 ≡ Accepted (reading m q) → block1230 s p ≡ biasesAt s (masked maskSignals m) q
-unfolding block1230
-block-read s p e = rw e
+pub block-read : (s : List ℕ) (p : ℕ) {m q : ℕ} → readUnsigned s p 4 ≡ Accepted (reading m q) → readBlock1230 s p ≡ biasesAt s (masked maskSignals m) q
+block-read s p e = sym (block-same s p) ∙ rw e
 
 -- ---- the call
 
@@ -190,7 +190,7 @@ module _ (s : List ℕ) (p : ℕ) (gs : List ℕ) (zs : List ℤ) where
     unfolding read1230
     uneven d = rw (le-ltb _ _ few, ne-eqb _ _ d)
 
-    pub call1230 : length gs ≡ length zs → {t : Told (Reading (List Rec1230))} → block1230 s p ≡ t
+    pub call1230 : length gs ≡ length zs → {t : Told (Reading (List Rec1230))} → readBlock1230 s p ≡ t
         → Call put1230 outcomeOf (lists1230 gs zs) (length gs) t (read1230 s p gs zs)
     unfolding read1230
     call1230 e b =

@@ -1,8 +1,8 @@
 -- What the reading of a block refuses: of data within their limit nothing but Short, and of lists that always suffice nothing by Room. Assumes nothing.
 use mathlib.Core.Path.{_≡_, refl, sym, _∙_}
 use mathlib.Core.Bool.{Bool, true, false, cond, not}
-use mathlib.Core.List.{List, [], _∷_}
-use Prim.Native.Nat.{ℕ, zero, suc, _≤_}
+use mathlib.Core.List.{List}
+use Prim.Native.Nat.{ℕ, _≤_}
 use native.Mathlib.Omega.{arith}
 use borrow.Author.Tests.{ltb-false, le-ltb}
 use lib.Dec.{eqb, ltb}
@@ -10,13 +10,16 @@ use lib.IntN.{ℤ}
 use lib.ListN.{length}
 use Rattle.bits.specs.Told.{Told, Accepted, Refused, size, room, andThen}
 use Rattle.bits.specs.Outcome.{refusing}
-use Rattle.bits.specs.Field.{Reading, readBy, readUnsigned, readTwos}
-use Rattle.bits.specs.Signed.{twosOf}
-use Rattle.bits.proofs.ReadLaws.{refused-short}
-use Rattle.messages.specs.Reader.{many, roomFor}
+use Rattle.bits.specs.Field.{Reading}
+use Rattle.formats.specs.Faithful.{Cut}
+use Rattle.messages.specs.Reader.{roomFor}
 use Rattle.messages.specs.Records.{Rec1059, Rec1230}
-use Rattle.messages.specs.Read1059.{biasAt, satelliteAt, block1059, filled1059, read1059}
-use Rattle.messages.specs.Read1230.{maskSignals, masked, biasesAt, block1230, filled1230, read1230}
+use Rattle.messages.specs.Layout1059.{block1059}
+use Rattle.messages.specs.Layout1230.{block1230}
+use Rattle.messages.specs.Read1059.{readBlock1059, filled1059, read1059}
+use Rattle.messages.specs.Read1230.{readBlock1230, filled1230, read1230}
+use Rattle.messages.proofs.Layout1059Laws.{block-good as good1059}
+use Rattle.messages.proofs.Layout1230Laws.{block-good as good1230}
 use Rattle.messages.proofs.ExtentLaws.{suffices-1059, suffices-1230}
 
 -- ---- Short alone
@@ -32,37 +35,18 @@ both : {A B : Type 0} (t : Told A) (f : A → Told B) → ShortAlone t → ((a :
 both (Accepted a) f o h = h a
 both (Refused n carried) f o h = record { number = λ {n = m} {carried = c} e. let d : n ≡ m = cc in sym d ∙ o .number refl }
 
-each : {A : Type 0} (f : ℕ → Told (Reading (List A))) → ((p : ℕ) → ShortAlone (f p)) → (n p : ℕ) → ShortAlone (many f n p)
-unfolding many
-each f h zero p = accepts _
-each f h (suc n) p = both (f p) _ (h p) (λ xs. both (many f n (xs .next)) _ (each f h n (xs .next)) (λ ys. accepts _))
+cut : {A : Type 0} (t : Told A) → Cut t → ShortAlone t
+cut (Accepted a) c = accepts a
+cut (Refused n carried) c = record { number = λ {n = m} {carried = d} e. let i : n ≡ m = cc in sym i ∙ c }
 
-module _ (s : List ℕ) (few : length s ≤ 1023) where
-  of-field : {A : Type 0} (meaning : ℕ → A) (p w : ℕ) → 1 ≤ w → w ≤ 64 → ShortAlone (readBy meaning s p w)
-  of-field meaning p w low high =
-      record { number = λ {n} {carried} e. let d = refused-short meaning s p w few low high e in cc }
+module _ (s : List ℕ) (few : length s ≤ 1023) (p : ℕ) where
+  pub short1059 : ShortAlone (readBlock1059 s p)
+  unfolding readBlock1059
+  short1059 = both (block1059 .reads s p) _ (cut _ (good1059 .short .cut s p few)) (λ r. accepts _)
 
-  pub short1059 : (p : ℕ) → ShortAlone (block1059 s p)
-  unfolding block1059 satelliteAt biasAt
-  short1059 p =
-      both (readUnsigned s p 6) _ (of-field (λ v. v) p 6 (omega arith) (omega arith)) (λ m. each (satelliteAt s) (λ p.
-      both (readUnsigned s p 6) _ (of-field (λ v. v) p 6 (omega arith) (omega arith)) (λ a.
-      both (readUnsigned s (a .next) 5) _ (of-field (λ v. v) (a .next) 5 (omega arith) (omega arith)) (λ n. each (biasAt s (a .value)) (λ p.
-      both (readUnsigned s p 5) _ (of-field (λ v. v) p 5 (omega arith) (omega arith)) (λ g.
-      both (readTwos s (g .next) 14) _ (of-field (twosOf 14) (g .next) 14 (omega arith) (omega arith)) (λ z.
-      accepts _))) (n .value) (n .next)))) (m .value) (m .next))
-
-  biases : (gs : List ℕ) (p : ℕ) → ShortAlone (biasesAt s gs p)
-  unfolding biasesAt
-  biases [] p = accepts _
-  biases (g ∷ gs) p =
-      both (readTwos s p 16) _ (of-field (twosOf 16) p 16 (omega arith) (omega arith)) (λ z.
-      both (biasesAt s gs (z .next)) _ (biases gs (z .next)) (λ ys. accepts _))
-
-  pub short1230 : (p : ℕ) → ShortAlone (block1230 s p)
-  unfolding block1230
-  short1230 p =
-      both (readUnsigned s p 4) _ (of-field (λ v. v) p 4 (omega arith) (omega arith)) (λ m. biases (masked maskSignals (m .value)) (m .next))
+  pub short1230 : ShortAlone (readBlock1230 s p)
+  unfolding readBlock1230
+  short1230 = both (block1230 .reads s p) _ (cut _ (good1230 .short .cut s p few)) (λ r. accepts _)
 
 -- ---- never Room
 
@@ -88,7 +72,7 @@ module _ (s : List ℕ) (p : ℕ) where
       let a = not-size (ltb 1023 (length s)) _ (told _ e) in
       let b = not-size (not (eqb (length sats) (length gs))) _ (a .1) in
       let c = not-size (not (eqb (length sats) (length zs))) _ (b .1) in
-      roomy (block1059 s p) 422 (length sats) (short1059 s (ltb-false 1023 (length s) (a .0)) p) (λ r f. suffices-1059 s p f) h (c .1)
+      roomy (readBlock1059 s p) 422 (length sats) (short1059 s (ltb-false 1023 (length s) (a .0)) p) (λ r f. suffices-1059 s p f) h (c .1)
     where
       told : (t : Told (Reading (List Rec1059))) → refusing (sats, gs, zs) t (filled1059 sats gs zs) .answer ≡ room m → t ≡ room m
       told (Accepted r) e = let z : _≡_ {A = ℕ} 0 1 = cc in absurd (omega arith)
@@ -99,7 +83,7 @@ module _ (s : List ℕ) (p : ℕ) where
   never-room1230 gs zs h {m} e =
       let a = not-size (ltb 1023 (length s)) _ (told _ e) in
       let b = not-size (not (eqb (length gs) (length zs))) _ (a .1) in
-      roomy (block1230 s p) 4 (length gs) (short1230 s (ltb-false 1023 (length s) (a .0)) p) (λ r f. suffices-1230 s p f) h (b .1)
+      roomy (readBlock1230 s p) 4 (length gs) (short1230 s (ltb-false 1023 (length s) (a .0)) p) (λ r f. suffices-1230 s p f) h (b .1)
     where
       told : (t : Told (Reading (List Rec1230))) → refusing (gs, zs) t (filled1230 gs zs) .answer ≡ room m → t ≡ room m
       told (Accepted r) e = let z : _≡_ {A = ℕ} 0 1 = cc in absurd (omega arith)

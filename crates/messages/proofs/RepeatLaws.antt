@@ -1,22 +1,21 @@
 -- The first that repeats an earlier one, along a list; and signals of message 1230 that do not repeat. Assumes nothing.
-use mathlib.Core.Path.{_≡_, refl, ap, _∙_}
+use mathlib.Core.Path.{_≡_, refl, ap}
 use mathlib.Core.Bool.{Bool, true, false, cond}
 use mathlib.Core.List.{List, [], _∷_}
 use Prim.Native.Nat.{ℕ, zero, suc, _+_, _≤_, _<_}
 use native.Mathlib.Numerals.{add-one}
 use native.Mathlib.Omega.{arith}
-use borrow.Author.Tests.{ne-eqb, eqb-true}
+use borrow.Author.Tests.{eqb-true}
 use lib.ListN.{length, drop, getD, drop-of-length-le}
 use lib.Seq.{drop-cons}
 use lib.IntN.{ℤ}
 use lib.Dec.{eqb}
 use Rattle.bits.specs.Told.{duplicate}
-use Rattle.messages.specs.Every.{Every}
 use Rattle.messages.specs.Records.{records1230}
 use Rattle.messages.specs.Writer.{fine, isAmong, firstRepeat, keep}
-use Rattle.messages.specs.Write1230.{isIn, ofSignal}
+use Rattle.messages.specs.Write1230.{isIn}
+use Rattle.messages.specs.Layout1230.{ofSignal}
 use Rattle.messages.proofs.AcceptLaws.{not-refused}
-use Rattle.messages.proofs.Mask1230Laws.{Apart, Different}
 
 -- ---- along a list, one by one
 
@@ -50,17 +49,6 @@ unfolding firstRepeat
 none-first same i k seen ks = not-refused 7 (i ∷ []) (isAmong same k seen) (firstRepeat same (suc i) (k ∷ seen) ks)
 
 -- ---- signals of message 1230
-
--- different signals do not repeat
-further : (g : ℕ) (seen hs : List ℕ) → Every (λ h. isIn h seen ≡ false) hs → Apart g hs → Every (λ h. isIn h (g ∷ seen) ≡ false) hs
-unfolding isAmong
-further g seen [] n a = tt
-further g seen (h ∷ hs) n a = (rw (ne-eqb g h (a .0)) (n .0), further g seen hs (n .1) (a .1))
-
-pub no-repeat : (i : ℕ) (seen gs : List ℕ) → Every (λ g. isIn g seen ≡ false) gs → Different gs → firstRepeat eqb i seen gs ≡ fine
-unfolding firstRepeat
-no-repeat i seen [] n d = refl
-no-repeat i seen (g ∷ gs) n d = rw (n .0) (no-repeat (suc i) (g ∷ seen) gs (further g seen gs (n .1) (d .0)) (d .1))
 
 -- where no signal repeats, none has two biases
 module _ (g : ℕ) where

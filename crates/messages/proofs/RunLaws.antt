@@ -8,9 +8,8 @@ use native.Mathlib.Omega.{arith}
 use lib.ListN.{length, length-append}
 use Rattle.bits.specs.Told.{Told, Accepted, Refused}
 use Rattle.bits.specs.Field.{Reading, reading}
-use Rattle.messages.specs.Reader.{before, many}
+use Rattle.messages.specs.StepsRead.{before, many, counts}
 use Rattle.messages.specs.Records.{counted}
-use Rattle.messages.specs.StepsRead.{counts}
 use Rattle.messages.proofs.PassLaws.{chain, both-read, counts-before}
 
 module _ {A : Type 0} (w most : ℕ) (cut : ℕ → List ℕ) where

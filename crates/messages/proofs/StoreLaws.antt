@@ -11,8 +11,7 @@ use Rattle.bits.specs.Told.{Told, Accepted}
 use Rattle.bits.specs.Field.{Reading, reading}
 use Rattle.bits.proofs.OntoLaws.{over-zero}
 use Rattle.messages.specs.Records.{Rec1059, satelliteOf, signalOf1059, biasOf1059, Rec1230, signalOf1230, biasOf1230, Counted, counted}
-use Rattle.messages.specs.StepsRead.{Lists1059, lists1059, put1059, Lists1230, lists1230, put1230, counts, recordsIn, Suffices, Stored}
-use Rattle.messages.specs.Reader.{many}
+use Rattle.messages.specs.StepsRead.{Lists1059, lists1059, put1059, Lists1230, lists1230, put1230, counts, recordsIn, Suffices, Stored, many}
 use Rattle.messages.proofs.ArmLaws.{IsRefused}
 use Rattle.messages.proofs.PassLaws.{chain, counts-none, counts-on, suffices-on, suffices-first, not-stopped, stored-on, stored-answer, many-left, many-none}
 

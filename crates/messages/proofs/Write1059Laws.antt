@@ -14,12 +14,14 @@ use Rattle.bits.specs.Fields.{bits, total, putAll}
 use Rattle.messages.specs.Records.{Rec1059, records1059}
 use Rattle.messages.specs.Signals1059.{isEdition, knownEdition}
 use Rattle.messages.specs.Writer.{fine, firstFault, firstRepeat, writeRun}
-use Rattle.messages.specs.Write1059.{fault1059, samePair, crowded, present, fields1059, refusedRecords1059, refused1059, write1059, ofSatellite, satellitesFrom}
-use Rattle.messages.specs.StepsWrite1059.{refusedFaultless, writeFaultless, writeKnown, Faultless, Linked, crowdedIn, presentIn}
-use Rattle.messages.specs.Put.{Fits, Did}
-use Rattle.messages.proofs.PutLaws.{Left, left-all, left-as, left-fits, left-put, left-none}
+use Rattle.messages.specs.Write1059.{fault1059, samePair, crowded, present, fields1059, refusedRecords1059, refused1059, write1059}
+use Rattle.messages.specs.Layout1059.{ofSatellite}
+use Rattle.messages.specs.StepsWrite1059.{satellitesFrom, refusedFaultless, writeFaultless, writeKnown, Faultless, Linked, crowdedIn, presentIn}
+use Rattle.formats.specs.Put.{Fits, Did}
+use Rattle.formats.proofs.PutLaws.{Left, left-all, left-as, left-fits, left-put, left-none}
 use Rattle.messages.proofs.WriterLaws.{run-refused, run-put, run-room}
 use Rattle.messages.proofs.LinkLaws.{count-records}
+use Rattle.messages.proofs.Layout1059Laws.{fields-laid}
 use Rattle.messages.proofs.CrowdLaws.{counts-fit, crowded-is, present-is, bits-is}
 
 -- ---- records without a fault
@@ -90,8 +92,7 @@ module _ (s : List ℕ) (p : ℕ) (sats gs : List ℕ) (zs : List ℤ) (d : Faul
                 (sym ej ∙ ap (λ (b : Bool). cond b (duplicate j) fine) (le-ltb j (length sats) v))
 
             laid : fields1059 (records1059 sats gs zs) ≡ (bits 6 m ∷ []) ++ satellitesFrom 0 64 (records1059 sats gs zs)
-            unfolding fields1059
-            laid = ap (λ (k : ℕ). bits 6 k ∷ satellitesFrom 0 64 (records1059 sats gs zs)) seen
+            laid = fields-laid (records1059 sats gs zs) ∙ ap (λ (k : ℕ). bits 6 k ∷ satellitesFrom 0 64 (records1059 sats gs zs)) seen
 
             begun : Left s p (fields1059 (records1059 sats gs zs)) s p ((bits 6 m ∷ []) ++ satellitesFrom 0 64 (records1059 sats gs zs))
             begun = left-as laid (left-all s p (fields1059 (records1059 sats gs zs)))

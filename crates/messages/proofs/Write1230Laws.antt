@@ -11,7 +11,7 @@ use lib.IntN.{ℤ}
 use Rattle.bits.specs.Told.{Accepted, Refused, andThen, size, signal, duplicate, room}
 use Rattle.bits.specs.Outcome.{outcome}
 use Rattle.bits.specs.Fields.{putAll}
-use Rattle.messages.specs.Put.{Fits}
+use Rattle.formats.specs.Put.{Fits}
 use Rattle.messages.specs.Records.{records1230}
 use Rattle.messages.specs.Writer.{fine, firstFault, firstRepeat}
 use Rattle.messages.specs.Write1230.{fault1230, fields1230, refused1230, write1230}

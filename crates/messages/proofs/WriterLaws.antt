@@ -1,6 +1,6 @@
--- A call that writes a run of fields: which answer it gives, what it leaves as it was, and reading the run back. Assumes nothing.
-use mathlib.Core.Path.{_≡_, refl, sym, ap, _∙_}
-use mathlib.Core.Bool.{Bool, true, false, cond}
+-- A call that writes a run of fields: which answer it gives, and what it leaves as it was. Assumes nothing.
+use mathlib.Core.Path.{_≡_, refl, sym}
+use mathlib.Core.Bool.{Bool, true, false}
 use mathlib.Core.Logic.{_⊎_}
 use mathlib.Core.List.{List, [], _∷_}
 use Prim.Native.Nat.{ℕ, _+_, _*_, _≤_, _<_}
@@ -10,10 +10,10 @@ use lib.ListN.{length}
 use lib.Dec.{ltb}
 use Rattle.bits.specs.Told.{Told, Accepted, Refused, andThen, room}
 use Rattle.bits.specs.Outcome.{Outcome, outcome, refusing}
-use Rattle.bits.specs.Field.{bitAt, Reading, reading}
-use Rattle.bits.specs.Fields.{Field, total, putAll, Holds, Fit, Bytes}
+use Rattle.bits.specs.Field.{bitAt}
+use Rattle.bits.specs.Fields.{Field, total, putAll, Bytes}
 use Rattle.bits.proofs.OutcomeLaws.{Keeps, writing-keeps}
-use Rattle.bits.proofs.FieldsLaws.{put-all-holds, length-put-all, put-all-outside, bytes-put-all}
+use Rattle.bits.proofs.FieldsLaws.{length-put-all, put-all-outside, bytes-put-all}
 use Rattle.messages.specs.Writer.{fine, runEnd, writeRun}
 use Rattle.messages.proofs.AcceptLaws.{then-accepted, not-refused}
 
@@ -69,15 +69,3 @@ module _ (refused : Told Unit) (s : List ℕ) (p : ℕ) (fs : List Field) where
       go (Refused n carried) e b f = kept (run-refused e)
       go (Accepted u) e true f = kept (run-room e (ltb-true (length s * 8) (p + total fs) f))
       go (Accepted u) e false f = let h = ltb-false (length s * 8) (p + total fs) f in rw (run-put e h) (put h)
-
--- what is read wherever the run stands is read where it was written
-pub reads-run : {A : Type 0} (block : List ℕ → Told (Reading A)) {y : A} (s : List ℕ) (p : ℕ) (fs : List Field) {w : Outcome ℕ (List ℕ)} {q : ℕ}
-    → w ≡ outcome (Accepted (p + total fs)) (putAll s p fs) → w .answer ≡ Accepted q → length s ≤ 1023 → p + total fs ≤ length s * 8 → Fit fs
-    → ((t : List ℕ) → length t ≤ 1023 → Holds t p fs → p + total fs ≤ length t * 8 → block t ≡ Accepted (reading y (p + total fs)))
-    → block (w .areas) ≡ Accepted (reading y q)
-reads-run block {y} s p fs {w} {q} i h few within fit reads =
-    let end : p + total fs ≡ q = cc (ap (λ (x : Outcome ℕ (List ℕ)). x .answer) i) in
-    let len = length-put-all s p fs in
-    ap (λ (x : Outcome ℕ (List ℕ)). block (x .areas)) i
-    ∙ reads (putAll s p fs) (omega arith) (put-all-holds s p fs within fit) (omega arith)
-    ∙ ap (λ (k : ℕ). Accepted (reading y k)) end

@@ -2,9 +2,8 @@
 use mathlib.Core.List.{List, [], _∷_, _++_, map}
 use Prim.Native.Nat.{ℕ, zero, suc}
 use Rattle.messages.specs.Records.{Rec1059, Rec1230, rec1230}
-use Rattle.messages.specs.Read1230.{maskSignals}
-use Rattle.messages.specs.Write1059.{ofSatellite}
-use Rattle.messages.specs.Write1230.{ofSignal}
+use Rattle.messages.specs.Layout1230.{maskSignals, ofSignal}
+use Rattle.messages.specs.Layout1059.{ofSatellite}
 
 -- the records of the n satellites from a on, ascending, those of each in list order
 unfoldable pub recordsFrom : ℕ → ℕ → List Rec1059 → List Rec1059

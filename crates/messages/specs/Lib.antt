@@ -6,6 +6,8 @@ pub mod Metres
 pub mod Records
 pub mod Reader
 pub mod Writer
+pub mod Layout1059
+pub mod Layout1230
 pub mod Read1059
 pub mod Write1059
 pub mod Read1230
@@ -19,5 +21,7 @@ pub mod I16
 pub mod WrittenBack
 pub mod StepsColumns
 pub mod StepsRead
-pub mod Put
+pub mod StepsRead1059
+pub mod StepsRead1230
 pub mod StepsWrite1059
+pub mod StepsWrite1230

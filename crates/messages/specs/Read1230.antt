@@ -1,35 +1,21 @@
 -- Reading the bias block of message 1230. Assumes nothing.
 use mathlib.Core.Bool.{cond, not}
-use mathlib.Core.List.{List, [], _∷_, map}
-use Prim.Native.Nat.{ℕ, _/_, _%_, _^_}
+use mathlib.Core.List.{List, map}
+use Prim.Native.Nat.{ℕ}
 use lib.ListN.{length}
 use lib.IntN.{ℤ}
 use lib.Dec.{eqb, ltb}
 use Rattle.bits.specs.Told.{Told, Accepted, andThen, size}
-use Rattle.bits.specs.Field.{Reading, reading, readUnsigned, readTwos}
+use Rattle.bits.specs.Field.{Reading}
 use Rattle.bits.specs.Outcome.{Outcome, outcome, refusing}
 use Rattle.bits.specs.Onto.{onto}
-use Rattle.messages.specs.Reader.{before, roomFor}
-use Rattle.messages.specs.Records.{Rec1230, rec1230, signalOf1230, biasOf1230, Counted, counted}
-use Rattle.messages.specs.Writer.{keep}
+use Rattle.messages.specs.Reader.{asRecords, roomFor}
+use Rattle.messages.specs.Layout1230.{block1230, flat1230}
+use Rattle.messages.specs.Records.{Rec1230, signalOf1230, biasOf1230, Counted, counted}
 
--- the signals of the mask from its top bit, 1C, 1P, 2C and 2P, by their glo numbers
-abbrev pub maskSignals : List ℕ
-maskSignals = 2 ∷ 3 ∷ 8 ∷ 9 ∷ []
-
--- the signals of gs whose bit of the mask m is set; the last signal's bit is the lowest
-unfoldable pub masked : List ℕ → ℕ → List ℕ
-masked [] m = []
-masked (g ∷ gs) m = keep (eqb (m / 2 ^ length gs % 2) 1) g (masked gs m)
-
--- a bias (16 bits, two's complement) for each signal
-unfoldable pub biasesAt : List ℕ → List ℕ → ℕ → Told (Reading (List Rec1230))
-biasesAt s [] p = Accepted (reading [] p)
-biasesAt s (g ∷ gs) p = andThen (readTwos s p 16) (λ z. before (rec1230 g (z .value) ∷ []) (biasesAt s gs (z .next)))
-
--- the block: mask (4 bits), a bias for each set bit
-unfoldable pub block1230 : List ℕ → ℕ → Told (Reading (List Rec1230))
-block1230 s p = andThen (readUnsigned s p 4) (λ m. biasesAt s (masked maskSignals (m .value)) (m .next))
+-- the records of the block from bit p on
+unfoldable pub readBlock1230 : List ℕ → ℕ → Told (Reading (List Rec1230))
+readBlock1230 s p = asRecords flat1230 (block1230 .reads s p)
 
 -- the lent lists once a block was read: their first places hold the signals and biases of its records, and later places stay
 abbrev pub filled1230 : List ℕ → List ℤ → Reading (List Rec1230) → Outcome Counted (List ℕ × List ℤ)
@@ -41,7 +27,7 @@ abbrev pub taken1230 : List ℕ → ℕ → List ℕ → List ℤ → Told (Read
 taken1230 s p gs zs =
     cond (ltb 1023 (length s)) size
     (cond (not (eqb (length gs) (length zs))) size
-    (andThen (block1230 s p) (roomFor (length gs))))
+    (andThen (readBlock1230 s p) (roomFor (length gs))))
 
 -- a call that reads the block from bit p on into the lent lists; a refusal leaves them as they came
 unfoldable pub read1230 : List ℕ → ℕ → List ℕ → List ℤ → Outcome Counted (List ℕ × List ℤ)

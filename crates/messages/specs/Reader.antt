@@ -1,20 +1,15 @@
--- Readers of records: each reads from a bit on, and gives its records and the bit behind them, or the refusal of the first field that cannot be read. Assumes nothing.
+-- Readers of records, over what a format reads. Assumes nothing.
 use mathlib.Core.Bool.{cond}
-use mathlib.Core.List.{List, [], _++_}
-use Prim.Native.Nat.{ℕ, zero, suc}
+use mathlib.Core.List.{List}
+use Prim.Native.Nat.{ℕ}
 use lib.ListN.{length}
 use lib.Dec.{ltb}
 use Rattle.bits.specs.Told.{Told, Accepted, andThen, room}
 use Rattle.bits.specs.Field.{Reading, reading}
 
--- the records xs, and behind them what is read
-abbrev pub before : {A : Type 0} → List A → Told (Reading (List A)) → Told (Reading (List A))
-before xs r = andThen r (λ ys. Accepted (reading (xs ++ ys .value) (ys .next)))
-
--- n times f, one behind the other, from bit p on
-unfoldable pub many : {A : Type 0} → (ℕ → Told (Reading (List A))) → ℕ → ℕ → Told (Reading (List A))
-many f zero p = Accepted (reading [] p)
-many f (suc n) p = andThen (f p) (λ xs. before (xs .value) (many f n (xs .next)))
+-- what was read, as records; a refusal stays as it is
+abbrev pub asRecords : {A B : Type 0} → (A → List B) → Told (Reading A) → Told (Reading (List B))
+asRecords flat t = andThen t (λ r. Accepted (reading (flat (r .value)) (r .next)))
 
 -- Room, once the whole block was read, where there are more records than n
 abbrev pub roomFor : {A : Type 0} → ℕ → Reading (List A) → Told (Reading (List A))

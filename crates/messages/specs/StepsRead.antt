@@ -1,13 +1,26 @@
 -- What the two passes of a block's reader compute. No promise to a caller rests on this file. Assumes nothing.
 use mathlib.Core.Path.{_≡_}
-use mathlib.Core.List.{List, [], map}
-use Prim.Native.Nat.{ℕ, _+_, _≤_}
+use mathlib.Core.List.{List, [], _++_, map}
+use Prim.Native.Nat.{ℕ, zero, suc, _+_, _≤_}
 use lib.ListN.{length}
 use lib.IntN.{ℤ}
 use lib.Seq.{sets}
 use Rattle.bits.specs.Told.{Told, Accepted, Refused, andThen}
-use Rattle.bits.specs.Field.{Reading}
+use Rattle.bits.specs.Field.{Reading, reading}
 use Rattle.messages.specs.Records.{Rec1059, satelliteOf, signalOf1059, biasOf1059, Rec1230, signalOf1230, biasOf1230, Counted, counted}
+
+-- ---- one behind the other
+
+-- the records xs, and behind them what is read
+abbrev pub before : {A : Type 0} → List A → Told (Reading (List A)) → Told (Reading (List A))
+before xs r = andThen r (λ ys. Accepted (reading (xs ++ ys .value) (ys .next)))
+
+-- n times f, one behind the other, from bit p on
+unfoldable pub many : {A : Type 0} → (ℕ → Told (Reading (List A))) → ℕ → ℕ → Told (Reading (List A))
+many f zero p = Accepted (reading [] p)
+many f (suc n) p = andThen (f p) (λ xs. before (xs .value) (many f n (xs .next)))
+
+-- ---- the two passes
 
 module _ {A : Type 0} where
   -- the first pass, behind i records: how many there are with those that are read, and the bit behind them

@@ -1,16 +1,17 @@
 -- Writing the bias block of message 1059. Assumes nothing.
 use mathlib.Core.Bool.{Bool, cond, not, _&&_}
-use mathlib.Core.List.{List, [], _∷_, _++_}
+use mathlib.Core.List.{List, []}
 use Prim.Native.Nat.{ℕ, zero, suc, _+_}
 use lib.ListN.{length}
 use lib.IntN.{ℤ}
 use lib.Dec.{eqb, ltb}
 use Rattle.bits.specs.Told.{Told, andThen, size, satellite, signal, range, tooMany}
-use Rattle.bits.specs.Signed.{fitsTwos, twosBits}
+use Rattle.bits.specs.Signed.{fitsTwos}
 use Rattle.bits.specs.Outcome.{Outcome}
-use Rattle.bits.specs.Fields.{Field, bits}
+use Rattle.bits.specs.Fields.{Field}
 use Rattle.messages.specs.Signals1059.{knownEdition, isSignal1059}
-use Rattle.messages.specs.Writer.{fine, keep, firstFault, firstRepeat, writeRun}
+use Rattle.messages.specs.Writer.{fine, firstFault, firstRepeat, writeRun}
+use Rattle.messages.specs.Layout1059.{block1059, ofSatellite, grouped1059}
 use Rattle.messages.specs.Records.{Rec1059, rec1059, records1059}
 
 -- ---- refusals
@@ -22,11 +23,6 @@ fault1059 edition i (rec1059 a g z) =
     (cond (not (isSignal1059 edition g)) (signal i)
     (cond (not (fitsTwos 14 z)) (range i)
     fine))
-
--- the records of satellite a, in list order
-unfoldable pub ofSatellite : ℕ → List Rec1059 → List Rec1059
-ofSatellite a [] = []
-ofSatellite a (rec1059 b g z ∷ rs) = keep (eqb b a) (rec1059 b g z) (ofSatellite a rs)
 
 -- the lowest of the n satellites from a on that has over 31 biases
 unfoldable pub crowded : ℕ → ℕ → List Rec1059 → Told Unit
@@ -44,24 +40,9 @@ samePair (rec1059 a g z) (rec1059 b h y) = eqb a b && eqb g h
 
 -- ---- the fields of a block
 
--- signal (5) and bias (14) of each record
-unfoldable pub biasFields : List Rec1059 → List Field
-biasFields [] = []
-biasFields (rec1059 a g z ∷ rs) = bits 5 g ∷ bits 14 (twosBits 14 z) ∷ biasFields rs
-
--- satellite a with its records: number (6), bias count (5), the biases; nothing where it has none
-unfoldable pub satelliteFields : ℕ → List Rec1059 → List Field
-satelliteFields a [] = []
-satelliteFields a (r ∷ rs) = bits 6 a ∷ bits 5 (length (r ∷ rs)) ∷ biasFields (r ∷ rs)
-
--- the n satellites from a on, ascending, the records of each in list order
-unfoldable pub satellitesFrom : ℕ → ℕ → List Rec1059 → List Field
-satellitesFrom a zero rs = []
-satellitesFrom a (suc n) rs = satelliteFields a (ofSatellite a rs) ++ satellitesFrom (suc a) n rs
-
--- satellite count (6), the satellites
+-- satellites ascending, the records of each in list order
 unfoldable pub fields1059 : List Rec1059 → List Field
-fields1059 rs = bits 6 (present 0 64 rs) ∷ satellitesFrom 0 64 rs
+fields1059 rs = block1059 .fields (grouped1059 rs)
 
 -- ---- the call
 

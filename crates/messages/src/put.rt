@@ -7,7 +7,7 @@ ghost use Prim.Native.Nat.{_+_, _*_, _^_, _≤_, _<_};
 ghost use lib.Dec.{leb};
 ghost use Rattle.bits.specs.Signed.{fitsTwos, twosBits};
 ghost use Rattle.bits.specs.Fields.{bits};
-ghost use Rattle.messages.specs.Put.{Fits, Did};
+ghost use Rattle.formats.specs.Put.{Fits, Did};
 use bits::field;
 use bits::field::Written;
 

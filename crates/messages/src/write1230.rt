@@ -9,11 +9,12 @@ ghost use Rattle.bits.specs.Told.{signal as signalAt, duplicate};
 ghost use Rattle.bits.specs.Outcome.{outcome};
 ghost use Rattle.bits.specs.Fields.{putAll};
 ghost use Rattle.messages.specs.Answers.{toldBlock};
-ghost use Rattle.messages.specs.Put.{Fits, Did};
+ghost use Rattle.formats.specs.Put.{Fits, Did};
 ghost use Rattle.messages.specs.Records.{records1230};
-ghost use Rattle.messages.specs.Read1230.{maskSignals};
+ghost use Rattle.messages.specs.Layout1230.{maskSignals, ofSignal};
 ghost use Rattle.messages.specs.Writer.{fine, firstFault, firstRepeat};
-ghost use Rattle.messages.specs.Write1230.{isIn, fault1230, ofSignal, biasFields16, fields1230, write1230};
+ghost use Rattle.messages.specs.Write1230.{isIn, fault1230, fields1230, write1230};
+ghost use Rattle.messages.specs.StepsWrite1230.{biasFields1230};
 use crate::answer::BlockWritten;
 use crate::put;
 use crate::read1230::MASK_SIGNALS;
@@ -123,8 +124,8 @@ fn mask_bit(signal: u8, signals: &[u8]) -> u64
 
 // The biases of one signal, in list order. The answer is the bit behind them.
 fn put_signal(bytes: &mut [u8], start: usize, signal: u8, signals: &[u8], biases: &[i16]) -> usize
-    requires { ⌜ Fits (now bytes) start (biasFields16 (ofSignal signal (records1230 (now signals) (now biases)))) × (length (now signals) ≡ length (now biases)) ⌝ }
-    ensures { λ r. ⌜ Did (now (bytes .entry)) start (biasFields16 (ofSignal signal (records1230 (now (signals .entry)) (now (biases .entry))))) (now (bytes .exit)) r ⌝ }
+    requires { ⌜ Fits (now bytes) start (biasFields1230 (ofSignal signal (records1230 (now signals) (now biases)))) × (length (now signals) ≡ length (now biases)) ⌝ }
+    ensures { λ r. ⌜ Did (now (bytes .entry)) start (biasFields1230 (ofSignal signal (records1230 (now (signals .entry)) (now (biases .entry))))) (now (bytes .exit)) r ⌝ }
 {
     let mut at = start;
     let mut i: usize = 0;

@@ -16,7 +16,8 @@ use Rattle.bits.specs.Onto.{onto}
 use Rattle.bits.proofs.FieldsLaws.{put-all-holds, length-put-all}
 use Rattle.messages.specs.Records.{satelliteOf, signalOf1059, biasOf1059, records1059, counted}
 use Rattle.messages.specs.Read1059.{read1059}
-use Rattle.messages.specs.Satellites1059.{Sat, satellites1059, Regular}
+use Rattle.messages.specs.Layout1059.{Sat}
+use Rattle.messages.specs.Satellites1059.{satellites1059, Regular}
 use Rattle.messages.specs.Signals1059.{isEdition}
 use Rattle.messages.specs.Write1059.{write1059, fields1059 as blockFields}
 use Rattle.messages.specs.InOrder.{inOrder1059}
@@ -25,7 +26,7 @@ use Rattle.messages.proofs.AcceptLaws.{not-refused}
 use Rattle.messages.proofs.Accepts1059 as block
 use Rattle.messages.proofs.Calls1059.{reads-back-1059, written-back-1059}
 use Rattle.messages.proofs.KeepLaws.{leaves-1059}
-use Rattle.messages.proofs.Satellites1059Laws.{block-stands}
+use Rattle.messages.proofs.Layout1059Laws.{block-good}
 use Rattle.whole.specs.declared.answer.Header1059.{Header1059}
 use Rattle.whole.specs.Headers.{front1059, headerFits1059, fields1059}
 use Rattle.whole.specs.Whole.{Whole, whole, fronted}
@@ -141,6 +142,6 @@ module _ (s : List ℕ) (a b : List ℕ) (c : List ℤ) where
       let d = call-reads accepted in
       let r = read1059 s 61 a b c in
       let x = front-faithful .there s 0 (reading h 61) (d .front) in
-      let past : 61 ≤ q = omega (arith, block-stands s 61 by-satellite .ends) in
+      let past : 61 ≤ q = omega (arith, block-good .faithful .there s 61 (reading xs q) by-satellite .ends) in
       let back = written-back-1059 s 61 a b c e (d .read) xs by-satellite regular t 61 few (omega (arith, past, room)) in
       rw (d .lists) (message-back s e t h (take n (r .areas .0)) (take n (r .areas .1)) (take n (r .areas .2)) (regular .known) (x .fitting) (x .holds) past back)

@@ -4,7 +4,7 @@ use mathlib.Core.Path.{sym}
 use Prim.Native.Nat.{_+_, _*_}
 use native.Mathlib.Omega.{arith}
 use borrow.Author.Tests.{lt-leb}
-use Rattle.messages.proofs.PutLaws.{room-test}
+use Rattle.formats.proofs.PutLaws.{room-test}
 use Rattle.messages.proofs.put.has_room.Statement.{statement}
 use Rattle.messages.proofs.put.has_room.Tie as tie
 

@@ -3,7 +3,7 @@ use mathlib.Core.Path.{ap, _∙_}
 use borrow.Author.Needs.{needs}
 use Rattle.bits.specs.Field.{writeTwos}
 use Rattle.messages.proofs.I16Laws.{widen}
-use Rattle.messages.proofs.PutLaws.{did-one, did-else}
+use Rattle.formats.proofs.PutLaws.{did-one, did-else}
 use Rattle.messages.proofs.put.twos.Statement.{statement}
 use Rattle.messages.proofs.put.twos.Tie as tie
 

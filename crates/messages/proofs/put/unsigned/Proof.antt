@@ -1,7 +1,7 @@
 -- `messages::put::unsigned` meets its contract. The field fits, so the write is accepted. Assumes nothing.
 use borrow.Author.Needs.{needs}
 use borrow.Author.Tests.{lt-ltb}
-use Rattle.messages.proofs.PutLaws.{did-one, did-else}
+use Rattle.formats.proofs.PutLaws.{did-one, did-else}
 use Rattle.messages.proofs.put.unsigned.Statement.{statement}
 use Rattle.messages.proofs.put.unsigned.Tie as tie
 

@@ -3,9 +3,8 @@ use mathlib.Core.Path.{_≡_, sym, ap, _∙_}
 use Prim.Native.Nat.{_-_, _*_, _≤_}
 use native.Mathlib.Omega.{arith}
 use borrow.Author.Needs.{needs}
-use Rattle.messages.specs.Reader.{many}
-use Rattle.messages.specs.StepsRead.{counts}
-use Rattle.messages.specs.Read1059.{satelliteAt}
+use Rattle.messages.specs.StepsRead.{many, counts}
+use Rattle.messages.specs.StepsRead1059.{satelliteAt}
 use Rattle.messages.specs.Answers.{toldRead}
 use Rattle.messages.proofs.ArmLaws.{read-refused}
 use Rattle.messages.proofs.PassLaws.{counts-none, many-all, many-none, many-counts-on, many-counts-stop}

@@ -4,9 +4,8 @@ use Prim.Native.Nat.{_-_, _≤_}
 use native.Mathlib.Omega.{arith}
 use borrow.Author.Needs.{needs}
 use lib.ListN.{length}
-use Rattle.messages.specs.Reader.{many}
-use Rattle.messages.specs.StepsRead.{lists1059, put1059}
-use Rattle.messages.specs.Read1059.{satelliteAt}
+use Rattle.messages.specs.StepsRead.{many, lists1059, put1059}
+use Rattle.messages.specs.StepsRead1059.{satelliteAt}
 use Rattle.messages.specs.Answers.{toldRead}
 use Rattle.messages.proofs.ArmLaws.{read-refused}
 use Rattle.messages.proofs.PassLaws.{many-all}

@@ -1,5 +1,5 @@
 -- `messages::signals1059::with_number` meets its contract: the bit of the number is set, and no other changes. Assumes nothing.
-use mathlib.Core.Path.{_≡_, ap, _∙_}
+use mathlib.Core.Path.{ap, _∙_}
 use Prim.Native.Nat.{ℕ, _^_}
 use borrow.Author.Needs.{needs}
 use native.Mathlib.Nat.{one-mul}

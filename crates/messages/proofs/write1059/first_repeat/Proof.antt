@@ -1,7 +1,7 @@
 -- `messages::write1059::first_repeat` meets its contract. The loop's invariant: before `i` nothing repeats, and the words tell the satellites and signals there. Assumes nothing.
 use mathlib.Core.Path.{_≡_, refl, sym, _∙_}
 use mathlib.Core.List.{List}
-use Prim.Native.Nat.{ℕ, _-_, _≤_}
+use Prim.Native.Nat.{_-_, _≤_}
 use native.Mathlib.Omega.{arith}
 use borrow.Author.Tests.{lt-ltb, le-ltb}
 use lib.ListN.{length, getD, length-set}

@@ -6,7 +6,7 @@ use mir.Syntax.{w16}
 use mir.ValLaws.{toZ-ofZ}
 use Rattle.bits.specs.Signed.{twosBits}
 use Rattle.bits.specs.Fields.{Field, bits}
-use Rattle.messages.proofs.PutLaws.{left-all, left-fits, left-put, left-none}
+use Rattle.formats.proofs.PutLaws.{left-all, left-fits, left-put, left-none}
 use Rattle.messages.proofs.write1059.put_bias.Statement.{statement}
 use Rattle.messages.proofs.write1059.put_bias.Tie as tie
 

@@ -9,10 +9,10 @@ use lib.IntN.{pos}
 use Rattle.bits.specs.Signed.{twosBits}
 use Rattle.bits.specs.Fields.{Field, bits}
 use Rattle.messages.specs.Records.{records1059}
-use Rattle.messages.specs.Write1059.{ofSatellite, biasFields, satelliteFields}
-use Rattle.messages.specs.StepsWrite1059.{nextOf}
+use Rattle.messages.specs.Layout1059.{ofSatellite}
+use Rattle.messages.specs.StepsWrite1059.{biasFields, satelliteFields, nextOf}
 use Rattle.messages.proofs.I16Laws.{same-16}
-use Rattle.messages.proofs.PutLaws.{Left, left-all, left-as, left-on, left-fits, left-put, left-none, did-none}
+use Rattle.formats.proofs.PutLaws.{Left, left-all, left-as, left-on, left-fits, left-put, left-none, did-none}
 use Rattle.messages.proofs.RecordLaws.{from1059}
 use Rattle.messages.proofs.LinkLaws.{next-bounds, link-next, satellite-none, satellite-left, next-stands, next-records, bias-here, bias-none}
 use Rattle.messages.proofs.write1059.put_satellite.Statement.{statement}

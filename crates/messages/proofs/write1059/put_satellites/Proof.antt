@@ -4,8 +4,9 @@ use Prim.Native.Nat.{ℕ, _-_, _≤_}
 use native.Mathlib.Omega.{arith}
 use Rattle.bits.specs.Fields.{Field}
 use Rattle.messages.specs.Records.{Rec1059, records1059}
-use Rattle.messages.specs.Write1059.{ofSatellite, satelliteFields, satellitesFrom}
-use Rattle.messages.proofs.PutLaws.{Left, left-all, left-as, left-fits, left-put, left-none}
+use Rattle.messages.specs.Layout1059.{ofSatellite}
+use Rattle.messages.specs.StepsWrite1059.{satelliteFields, satellitesFrom}
+use Rattle.formats.proofs.PutLaws.{Left, left-all, left-as, left-fits, left-put, left-none}
 use Rattle.messages.proofs.Fields1059Laws.{satellites-next, satellites-none}
 use Rattle.messages.proofs.write1059.put_satellites.Statement.{statement}
 use Rattle.messages.proofs.write1059.put_satellites.Tie as tie

@@ -8,10 +8,9 @@ use lib.ListN.{length, getD}
 use Rattle.bits.specs.Told.{Accepted}
 use Rattle.bits.specs.Outcome.{outcome}
 use Rattle.bits.specs.Fields.{bits, putAll}
-use Rattle.messages.specs.Put.{Fits, Did}
+use Rattle.formats.specs.Put.{Fits, Did}
 use Rattle.messages.specs.Records.{Rec1059, records1059}
-use Rattle.messages.specs.Write1059.{satellitesFrom}
-use Rattle.messages.specs.StepsWrite1059.{writeFaultless}
+use Rattle.messages.specs.StepsWrite1059.{satellitesFrom, writeFaultless}
 use borrow.Author.Needs.{needs}
 use Rattle.messages.proofs.LinkLaws.{linked-none}
 use Rattle.messages.proofs.Write1059Laws.{sound-crowded, sound-all, sound-repeat, sound-counts, sound-room, sound-first, sound-rest, sound-put}

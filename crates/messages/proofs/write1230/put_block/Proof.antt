@@ -5,15 +5,17 @@ use native.Mathlib.Omega.{arith}
 use borrow.Author.Needs.{needs}
 use Rattle.bits.specs.Fields.{Field, bits}
 use Rattle.messages.specs.Records.{records1230}
-use Rattle.messages.specs.Write1230.{ofSignal, biasFields16, fields1230}
-use Rattle.messages.proofs.PutLaws.{Left, left-all, left-as, left-fits, left-put, left-none}
+use Rattle.messages.specs.Layout1230.{ofSignal}
+use Rattle.messages.specs.StepsWrite1230.{biasFields1230}
+use Rattle.messages.specs.Write1230.{fields1230}
+use Rattle.formats.proofs.PutLaws.{Left, left-all, left-as, left-fits, left-put, left-none}
 use Rattle.messages.proofs.Fields1230Laws.{mask-is, laid}
 use Rattle.messages.proofs.write1230.put_block.Statement.{statement}
 use Rattle.messages.proofs.write1230.put_block.Tie as tie
 
 -- the biases of signal g
 abbrev part : tie.Start → ℕ → List Field
-part s g = biasFields16 (ofSignal g (records1230 (s .args .signals .now) (s .args .biases .now)))
+part s g = biasFields1230 (ofSignal g (records1230 (s .args .signals .now) (s .args .biases .now)))
 
 abbrev whole : tie.Start → List Field
 whole s = fields1230 (records1230 (s .args .signals .now) (s .args .biases .now))

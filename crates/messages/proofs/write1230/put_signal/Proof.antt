@@ -8,9 +8,10 @@ use lib.IntN.{pos}
 use Rattle.bits.specs.Signed.{twosBits}
 use Rattle.bits.specs.Fields.{bits}
 use Rattle.messages.specs.Records.{records1230}
-use Rattle.messages.specs.Write1230.{ofSignal, biasFields16}
+use Rattle.messages.specs.Layout1230.{ofSignal}
+use Rattle.messages.specs.StepsWrite1230.{biasFields1230}
 use Rattle.messages.proofs.I16Laws.{same-16, all-fit}
-use Rattle.messages.proofs.PutLaws.{Left, left-all, left-as, left-fits, left-put, left-none}
+use Rattle.formats.proofs.PutLaws.{Left, left-all, left-as, left-fits, left-put, left-none}
 use Rattle.messages.proofs.RecordLaws.{from1230}
 use Rattle.messages.proofs.Fields1230Laws.{bias-here, bias-later, bias-none}
 use Rattle.messages.proofs.write1230.put_signal.Statement.{statement}
@@ -19,7 +20,7 @@ use Rattle.messages.proofs.write1230.put_signal.Tie as tie
 abbrev Inv-loop : tie.InvT-loop
 Inv-loop bytes₀ start signal signals biases at₀ i₀ bytes at i =
     (i ≤ length signals)
-    × Left bytes₀ start (biasFields16 (ofSignal signal (records1230 signals biases))) bytes at (biasFields16 (ofSignal signal (from1230 signals biases i)))
+    × Left bytes₀ start (biasFields1230 (ofSignal signal (records1230 signals biases))) bytes at (biasFields1230 (ofSignal signal (from1230 signals biases i)))
 
 abbrev μ-loop : tie.MeasureT-loop
 μ-loop bytes₀ start signal signals biases at₀ i₀ bytes at i = length signals - i
