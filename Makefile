@@ -138,7 +138,7 @@ $(B)/pic/%_table.o: c/%.c Makefile
 
 # ---- Programs.
 
-TESTS := test_calls test_messages test_1001 test_random test_hostile test_recordings test_answers
+TESTS := test_calls test_messages test_1001 test_random test_hostile test_feed_all test_recordings test_answers
 PROGRAMS := $(TESTS) relay
 HELPERS := crumbs expected
 
@@ -221,6 +221,7 @@ check-opt: $(TESTS:%=$(B)/opt/%) $(B)/opt/test_calls_shared
 	$(B)/opt/test_1001 $(call many,40000 every,4000)
 	$(B)/opt/test_random $(call many,120000,12000)
 	$(B)/opt/test_hostile $(call many,200,10)
+	$(B)/opt/test_feed_all $(call many,100,10) $(RECORDINGS)
 	$(B)/opt/test_recordings $(RECORDINGS)
 	$(B)/opt/test_answers $(ANSWERS)
 
@@ -230,6 +231,7 @@ check-san: $(TESTS:%=$(B)/san/%)
 	$(B)/san/test_1001 $(call many,10000,1000)
 	$(B)/san/test_random $(call many,40000,4000)
 	$(B)/san/test_hostile $(call many,20,2)
+	$(B)/san/test_feed_all $(call many,50,5) $(RECORDINGS)
 	$(B)/san/test_recordings $(RECORDINGS)
 	$(B)/san/test_answers $(ANSWERS)
 
@@ -238,7 +240,7 @@ check-valgrind: $(TESTS:%=$(B)/opt/%)
 	    echo "valgrind: skipped, since an emulator runs the programs"; \
 	elif command -v valgrind >/dev/null; then \
 	    run() { echo "valgrind $$*"; valgrind -q --error-exitcode=1 --leak-check=full --errors-for-leak-kinds=definite "$$@"; }; \
-	    run $(B)/opt/test_calls && run $(B)/opt/test_messages 100 && run $(B)/opt/test_1001 500 && run $(B)/opt/test_random 2000 && run $(B)/opt/test_recordings $(RECORDINGS) && \
+	    run $(B)/opt/test_calls && run $(B)/opt/test_messages 100 && run $(B)/opt/test_1001 500 && run $(B)/opt/test_random 2000 && run $(B)/opt/test_feed_all 1 && run $(B)/opt/test_recordings $(RECORDINGS) && \
 	    run $(B)/opt/test_answers $(ANSWERS); \
 	else \
 	    echo "valgrind: skipped, since it is not here"; \

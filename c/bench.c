@@ -165,6 +165,7 @@ int main(void)
     print_speed("speed over a clean stream, to RTKLIB's framing", fed, RTKLIB, 8);
     limits_of_scanning();
     limits_of_false_starts();
+    limits_of_all_frames(clean);
     print_limit("reading 1059, for each of 400 records", costs.read.ns, " ns", 12, true);
     print_limit("writing 1059, for each of 400 records", costs.write.ns, " ns", 40, true);
     print_limit("reading 1059, to the plain program", costs.read.to[PLAIN], " times", 2, true);

@@ -628,6 +628,54 @@ uint32_t ref_feed(uint8_t *held, size_t held_len, size_t held_count, uint64_t ta
     return PV_ACCEPTED;
 }
 
+/* The frames of the held bytes and the piece, copied together, place by place. */
+uint32_t ref_feed_all(uint8_t *held, size_t held_len, size_t held_count, uint64_t taken, uint32_t mode,
+                      const uint8_t *piece, size_t piece_len, uint8_t *seam, size_t seam_len,
+                      uint32_t *starts, size_t starts_len, uint32_t *lengths, size_t lengths_len,
+                      uint8_t *kinds, size_t kinds_len, uint64_t *extra, size_t extra_len)
+{
+    static uint8_t joined[PV_HELD_SIZE + PV_PIECE_MAX];
+    if (extra_len != PV_EXTRA_SIZE || held_len != PV_HELD_SIZE || seam_len != PV_SEAM_SIZE)
+        return PV_SIZE;
+    if (held_count > PV_HELD_SIZE || held_count > taken || taken > PV_TAKEN_MAX || mode > PV_RTCM_AND_UBX)
+        return refuse(extra, PV_STATE, 0);
+    if (piece_len > PV_PIECE_MAX || taken + piece_len > PV_TAKEN_MAX || lengths_len != starts_len || kinds_len != starts_len)
+        return refuse(extra, PV_SIZE, 0);
+    if (starts_len == 0)
+        return refuse(extra, PV_ROOM, 1);
+    memcpy(joined, held, held_count);
+    if (piece_len > 0)
+        memcpy(joined + held_count, piece, piece_len);
+    size_t all = held_count + piece_len, at = 0, count = 0, skipped = 0, frame_len = 0;
+    enum ref_fate fate = REF_SKIPPED;
+    while (count < starts_len && (fate = ref_scan(mode, joined, all, at, &frame_len)) != REF_HELD) {
+        if (fate == REF_SKIPPED) {
+            at++;
+            skipped++;
+            continue;
+        }
+        if (at < held_count)
+            memcpy(seam + at, joined + at, frame_len);
+        starts[count] = (uint32_t)at;
+        lengths[count] = (uint32_t)frame_len;
+        kinds[count] = joined[at] == 0xB5 ? PV_UBX : PV_RTCM;
+        at += frame_len;
+        count++;
+    }
+    int full = count == starts_len;
+    size_t seen = !full ? all : at < held_count ? held_count : at;
+    memcpy(held, joined + at, seen - at);
+    clear(extra);
+    extra[PV_AT_ALL_COUNT] = count;
+    extra[PV_AT_ALL_TAKEN] = seen - held_count;
+    extra[PV_AT_ALL_SKIPPED] = skipped;
+    extra[PV_AT_ALL_HELD_COUNT] = seen - at;
+    extra[PV_AT_ALL_FULL] = full;
+    extra[PV_AT_ALL_PLACE] = taken - held_count;
+    extra[PV_AT_ALL_ALL_TAKEN] = taken + seen - held_count;
+    return PV_ACCEPTED;
+}
+
 /* A byte at the front that starts no whole good frame is given up, whatever it waits for. */
 uint32_t ref_close(uint8_t *held, size_t held_len, size_t held_count, uint64_t taken, uint32_t mode,
                    uint8_t *out, size_t out_len, uint64_t *extra, size_t extra_len)

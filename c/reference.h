@@ -49,6 +49,10 @@ uint32_t ref_cache_lookup(const struct pv_cache_entry *entries, size_t entries_l
 uint32_t ref_feed(uint8_t *held, size_t held_len, size_t held_count, uint64_t taken, uint32_t mode,
                   const uint8_t *piece, size_t piece_len, uint8_t *out, size_t out_len,
                   uint64_t *extra, size_t extra_len);
+uint32_t ref_feed_all(uint8_t *held, size_t held_len, size_t held_count, uint64_t taken, uint32_t mode,
+                      const uint8_t *piece, size_t piece_len, uint8_t *seam, size_t seam_len,
+                      uint32_t *starts, size_t starts_len, uint32_t *lengths, size_t lengths_len,
+                      uint8_t *kinds, size_t kinds_len, uint64_t *extra, size_t extra_len);
 uint32_t ref_close(uint8_t *held, size_t held_len, size_t held_count, uint64_t taken, uint32_t mode,
                    uint8_t *out, size_t out_len, uint64_t *extra, size_t extra_len);
 

@@ -540,10 +540,15 @@ static enum outcome connect_to(const char *address, int *fd)
 
 /* ---- The relay itself. ---- */
 
+#define FRAMES_LISTED 512 /* Frames that one call lists; a piece with more of them takes more calls. */
+
 struct relay {
     const struct options *options;
     int in, out;
     uint8_t piece[PV_PIECE_MAX];
+    struct pv_lists lists;
+    uint32_t starts[FRAMES_LISTED], lengths[FRAMES_LISTED];
+    uint8_t kinds[FRAMES_LISTED];
     uint8_t frames[PV_PIECE_MAX + PV_FRAME_MAX]; /* Frames that wait to be written. */
     size_t waiting;
 };
@@ -592,16 +597,14 @@ static enum outcome flush(struct relay *relay)
 }
 
 /* Counts a frame and says whether it is to be passed on. */
-static bool count_frame(const struct options *options, const uint8_t *frame, const struct pv_fed *fed)
+static bool count_frame(const struct options *options, const uint8_t *frame, size_t frame_len, uint64_t place, int kind)
 {
     uint64_t extra[PV_EXTRA_SIZE];
-    size_t frame_len = fed->frame_len;
     counts.frames++;
     counts.frame_bytes += frame_len;
     if (options->places)
-        fprintf(stderr, "relay: %s frame of %zu bytes at %" PRIu64 "\n", fed->kind == PV_UBX ? "UBX" : "RTCM", frame_len,
-                fed->place);
-    if (fed->kind == PV_UBX) {
+        fprintf(stderr, "relay: %s frame of %zu bytes at %" PRIu64 "\n", kind == PV_UBX ? "UBX" : "RTCM", frame_len, place);
+    if (kind == PV_UBX) {
         counts.ubx++;
         return options->pass_ubx;
     }
@@ -614,25 +617,38 @@ static bool count_frame(const struct options *options, const uint8_t *frame, con
     return !options->only_some || options->passes[extra[PV_AT_FIELD_VALUE]];
 }
 
-/* Feeds one piece until More. Each frame is handed out behind those that wait, and stays there if it is passed on. */
+/* Puts the listed frames that are passed on behind those that wait. */
+static enum outcome gather_listed(struct relay *relay, const struct pv_fed_all *fed, const uint8_t *piece)
+{
+    for (size_t i = 0; i < fed->count; i++) {
+        const uint8_t *frame = pv_listed_frame(&relay->lists, fed, piece, i);
+        size_t frame_len = relay->lengths[i];
+        if (!count_frame(relay->options, frame, frame_len, fed->place + relay->starts[i], relay->kinds[i]))
+            continue;
+        if (sizeof relay->frames - relay->waiting < frame_len && flush(relay) != READY)
+            return FAILED;
+        memcpy(relay->frames + relay->waiting, frame, frame_len);
+        relay->waiting += frame_len;
+    }
+    return READY;
+}
+
+/* Feeds one piece, as long as the lists are full. */
 static enum outcome relay_piece(struct relay *relay, const uint8_t *piece, size_t n)
 {
-    struct pv_fed fed;
+    struct pv_fed_all fed;
     do {
-        if (sizeof relay->frames - relay->waiting < PV_FRAME_MAX && flush(relay) != READY)
-            return FAILED;
-        uint8_t *frame = relay->frames + relay->waiting;
-        uint32_t refusal = pv_scanner_feed(&scanner, piece, n, frame, sizeof relay->frames - relay->waiting, &fed);
+        uint32_t refusal = pv_scanner_feed_all(&scanner, piece, n, &relay->lists, &fed);
         if (refusal != PV_ACCEPTED) {
             fprintf(stderr, "relay: feeding was refused: %s\n", pv_refusal_name(refusal));
             return FAILED;
         }
+        counts.skipped += fed.skipped;
+        if (gather_listed(relay, &fed, piece) != READY)
+            return FAILED;
         piece += fed.taken;
         n -= fed.taken;
-        counts.skipped += fed.skipped;
-        if (fed.is_frame && count_frame(relay->options, frame, &fed))
-            relay->waiting += fed.frame_len;
-    } while (fed.is_frame);
+    } while (fed.is_full);
     return flush(relay);
 }
 
@@ -653,6 +669,10 @@ int main(int argc, char **argv)
 {
     static struct options options;
     static struct relay relay = { .options = &options, .in = STDIN_FILENO, .out = STDOUT_FILENO };
+    relay.lists.starts = relay.starts;
+    relay.lists.lengths = relay.lengths;
+    relay.lists.kinds = relay.kinds;
+    relay.lists.places = FRAMES_LISTED;
     in_use = &options;
     int given = read_options(argc, argv, &options);
     if (given != 0)

@@ -155,6 +155,15 @@ uint32_t pv_feed(uint8_t *held, size_t held_len, size_t held_count, uint64_t tak
     return ref_feed(held, held_len, held_count, taken, mode, piece, piece_len, out, out_len, extra, extra_len);
 }
 
+uint32_t pv_feed_all(uint8_t *held, size_t held_len, size_t held_count, uint64_t taken, uint32_t mode,
+                     const uint8_t *piece, size_t piece_len, uint8_t *seam, size_t seam_len,
+                     uint32_t *starts, size_t starts_len, uint32_t *lengths, size_t lengths_len,
+                     uint8_t *kinds, size_t kinds_len, uint64_t *extra, size_t extra_len)
+{
+    return ref_feed_all(held, held_len, held_count, taken, mode, piece, piece_len, seam, seam_len, starts, starts_len,
+                        lengths, lengths_len, kinds, kinds_len, extra, extra_len);
+}
+
 uint32_t pv_close(uint8_t *held, size_t held_len, size_t held_count, uint64_t taken, uint32_t mode,
                   uint8_t *out, size_t out_len, uint64_t *extra, size_t extra_len)
 {

@@ -88,6 +88,8 @@ static inline const char *pv_refusal_name(uint32_t number)
 #define PV_EXTRA_SIZE 8      /* Numbers in an extra area, exactly. */
 #define PV_HELD_SIZE 1029    /* Bytes in the held area of a scanner, exactly. */
 #define PV_FRAME_MIN 6       /* Bytes in the shortest frame: three before the data and three behind. */
+#define PV_SEAM_SIZE 2058    /* Bytes in the seam that pv_feed_all copies frames to, exactly. */
+#define PV_ALL_MAX 11095     /* Places in lists that are never full: no piece behind held bytes has as many frames. */
 #define PV_FRAME_MAX 1029    /* Bytes in the longest frame, and the least output that feeding accepts. */
 #define PV_DATA_MAX 1023     /* Bytes in the longest data area. */
 #define PV_PIECE_MAX 65536   /* Bytes in the longest piece that one feeding call accepts. */
@@ -128,6 +130,14 @@ static inline const char *pv_refusal_name(uint32_t number)
 #define PV_AT_FED_PLACE 5        /* Feeding: the stream place of the frame's first byte, or 0. */
 #define PV_AT_FED_ALL_TAKEN 6    /* Feeding: bytes taken since fresh, from now on. */
 #define PV_AT_FED_KIND 7         /* Feeding: PV_RTCM or PV_UBX; PV_RTCM also where there is no frame. */
+
+#define PV_AT_ALL_COUNT 0      /* All frames: how many are listed. */
+#define PV_AT_ALL_TAKEN 1      /* All frames: bytes of the piece taken. */
+#define PV_AT_ALL_SKIPPED 2    /* All frames: bytes skipped in this call. */
+#define PV_AT_ALL_HELD_COUNT 3 /* All frames: the held count from now on. */
+#define PV_AT_ALL_FULL 4       /* All frames: 1 if the lists are full, else 0. */
+#define PV_AT_ALL_PLACE 5      /* All frames: the stream place that starts[i] = 0 stands for. */
+#define PV_AT_ALL_ALL_TAKEN 6  /* All frames: bytes taken since fresh, from now on. */
 
 #define PV_AT_WHY 0          /* What became of a byte: PV_WHY_FRAME, PV_WHY_NOT_D3, PV_WHY_BAD_CHECK or PV_WHY_HELD. */
 #define PV_AT_WHY_PLACE 1    /* The place of the frame, of the byte itself, or of the unfinished candidate. */
@@ -317,6 +327,38 @@ uint32_t pv_differing(const uint8_t *sent, size_t sent_len, const uint8_t *recei
 uint32_t pv_feed(uint8_t *held, size_t held_len, size_t held_count, uint64_t taken, uint32_t mode,
                  const uint8_t *piece, size_t piece_len, uint8_t *out, size_t out_len,
                  uint64_t *extra, size_t extra_len);
+
+/*
+ * Feeds a piece to a scanner and lists its frames, all of them in one call. The scanner is that of pv_feed; the two calls
+ * may be mixed, and find the same frames, at the same places, skip the same bytes and hold the same.
+ *
+ * Frame i starts at starts[i], has lengths[i] bytes and is of kinds[i], PV_RTCM or PV_UBX. Starts are counted from the
+ * first byte that was held before the call, or from the piece's first byte if none was: frame i stands at stream place
+ * extra[PV_AT_ALL_PLACE] + starts[i]. The bytes of a frame are not copied but lie where they are:
+ *
+ *     starts[i] >= held_count     in the piece, at piece + (starts[i] - held_count), where held_count is the one before
+ *     starts[i] < held_count      in the seam, at seam + starts[i]: the frame began in the held bytes, and was put together
+ *
+ * The seam is an area of exactly 2,058 bytes that a program may lend again and again; it has to last until the frames were
+ * looked at, as the piece has. Other bytes of it, and later places of the lists, stay as they were.
+ *
+ * With fewer frames than the lists have places the whole piece is taken, and more bytes are needed. Where the lists are
+ * full, scanning stops right behind the last frame: call again with the untaken rest of the piece, piece + taken, also if
+ * that is empty. There may or may not be more frames then. A frame has at least 6 bytes, so lists of PV_ALL_MAX (11,095)
+ * places are never full.
+ *
+ * Skipped are the bytes before the last frame of full lists, else before the bytes then held, that are in no frame.
+ *
+ * Refuses, in this order: PV_SIZE (held_len is not 1,029 or seam_len not 2,058; like a wrong extra_len this writes nothing
+ * at all, `extra` included), PV_STATE as pv_feed does, PV_SIZE (piece above 65,536 bytes, `taken` with the piece above
+ * 2^48, or lists of unequal length), PV_ROOM (lists of no place; carries 1). Keep the old numbers after a refusal.
+ * Answers: [PV_AT_ALL_COUNT]; [PV_AT_ALL_TAKEN]; [PV_AT_ALL_SKIPPED]; [PV_AT_ALL_HELD_COUNT] and [PV_AT_ALL_ALL_TAKEN] the
+ * numbers to pass to the next call; [PV_AT_ALL_FULL]; [PV_AT_ALL_PLACE].
+ */
+uint32_t pv_feed_all(uint8_t *held, size_t held_len, size_t held_count, uint64_t taken, uint32_t mode,
+                     const uint8_t *piece, size_t piece_len, uint8_t *seam, size_t seam_len,
+                     uint32_t *starts, size_t starts_len, uint32_t *lengths, size_t lengths_len,
+                     uint8_t *kinds, size_t kinds_len, uint64_t *extra, size_t extra_len);
 
 /*
  * Closes a recording: hands out at most one frame of the bytes that a scanner still holds once no more bytes come. A false
@@ -784,6 +826,56 @@ static inline uint32_t pv_scanner_feed(struct pv_scanner *scanner, const uint8_t
     fed->place = extra[PV_AT_FED_PLACE];
     fed->kind = (int)extra[PV_AT_FED_KIND];
     return PV_ACCEPTED;
+}
+
+/* Lists for pv_scanner_feed_all, and the seam: the caller's own memory, lent to each call. */
+struct pv_lists {
+    uint32_t *starts, *lengths;
+    uint8_t *kinds;
+    size_t places; /* Of each of the three lists. */
+    uint8_t seam[PV_SEAM_SIZE];
+};
+
+/* What an accepted call of pv_scanner_feed_all answers. */
+struct pv_fed_all {
+    size_t count;      /* How many frames are listed. */
+    size_t taken;      /* Bytes of the piece taken. */
+    size_t skipped;    /* Bytes skipped in this call, held ones included. */
+    size_t held_before; /* The held count before the call: frames that start below it lie in the seam. */
+    uint64_t place;    /* The stream place that a start of 0 stands for. */
+    int is_full;       /* 1: call again with piece + taken. 0: the whole piece is taken. */
+};
+
+/*
+ * pv_feed_all on a scanner: the same answers and refusals, in the same order. The scanner and *fed change only where 0 is
+ * returned.
+ */
+static inline uint32_t pv_scanner_feed_all(struct pv_scanner *scanner, const uint8_t *piece, size_t piece_len,
+                                           struct pv_lists *lists, struct pv_fed_all *fed)
+{
+    uint64_t extra[PV_EXTRA_SIZE];
+    uint32_t refusal = pv_feed_all(scanner->held, PV_HELD_SIZE, scanner->held_count, scanner->taken, scanner->mode,
+                                   piece, piece_len, lists->seam, PV_SEAM_SIZE, lists->starts, lists->places,
+                                   lists->lengths, lists->places, lists->kinds, lists->places, extra, PV_EXTRA_SIZE);
+    if (refusal != PV_ACCEPTED)
+        return refusal;
+    fed->held_before = scanner->held_count;
+    scanner->held_count = extra[PV_AT_ALL_HELD_COUNT];
+    scanner->taken = extra[PV_AT_ALL_ALL_TAKEN];
+    fed->count = extra[PV_AT_ALL_COUNT];
+    fed->taken = extra[PV_AT_ALL_TAKEN];
+    fed->skipped = extra[PV_AT_ALL_SKIPPED];
+    fed->place = extra[PV_AT_ALL_PLACE];
+    fed->is_full = extra[PV_AT_ALL_FULL] == 1;
+    return PV_ACCEPTED;
+}
+
+/* The bytes of frame i of a call of pv_scanner_feed_all on this piece: lists->lengths[i] of them, in the piece or the seam. */
+static inline const uint8_t *pv_listed_frame(const struct pv_lists *lists, const struct pv_fed_all *fed,
+                                             const uint8_t *piece, size_t i)
+{
+    size_t start = lists->starts[i];
+    return start < fed->held_before ? lists->seam + start : piece + (start - fed->held_before);
 }
 
 /*

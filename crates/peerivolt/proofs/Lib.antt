@@ -6,3 +6,4 @@ pub mod KeepLaws
 pub mod FeedLaws
 pub mod Examples
 pub mod ClosingLaws
+pub mod AllFramesLaws

@@ -13,3 +13,4 @@ pub mod Message1001
 pub mod Messages
 pub mod Why
 pub mod Closing
+pub mod AllFrames

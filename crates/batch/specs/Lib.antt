@@ -1,0 +1,4 @@
+pub mod Batch
+pub mod Answers
+pub mod Steps
+pub mod Repeated
