@@ -125,15 +125,15 @@ fn write_faultless(
     ensures { λ r. ⌜ outcome (toldBlock r) (now (bytes .exit)) ≡ writeFaultless (now (bytes .entry)) start (records1059 (now (satellites .entry)) (now (signals .entry)) (now (biases .entry))) ⌝ }
 {
     let n = satellites.len();
-    let mut heads = [n as u16; 64];
-    let mut links = [0u16; 1953];
-    let mut counts = [0u16; 64];
-    link(satellites, &mut heads, &mut links, &mut counts);
-    let crowded = first_crowded(&counts);
+    let mut head = [n as u16; 64];
+    let mut next = [0u16; 1953];
+    let mut count = [0u16; 64];
+    link(satellites, &mut head, &mut next, &mut count);
+    let crowded = first_crowded(&count);
     if crowded < 64 {
         return BlockWritten::TooMany(crowded);
     }
-    let m = present(&counts);
+    let m = present(&count);
     if m == 64 {
         return BlockWritten::TooMany(64);
     }
@@ -146,16 +146,7 @@ fn write_faultless(
         return BlockWritten::Room(bits);
     }
     let at = put::unsigned(bytes, start, 6, m as u64);
-    put_satellites(
-        bytes,
-        at,
-        &heads,
-        &links,
-        &counts,
-        satellites,
-        signals,
-        biases,
-    );
+    put_satellites(bytes, at, &head, &next, &count, satellites, signals, biases);
     BlockWritten::End(start + bits)
 }
 
