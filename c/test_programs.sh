@@ -196,6 +196,18 @@ warnings() {
     check "--start-1230" "$(grep -c '^  0 blocks read, 6 refused$' "$work/out")" 1
     "$bin/rtcm_biases" --start "$data/rtcm3.bndm.bin" >"$work/out" 2>"$work/err"
     check "--start without a number" "$(last_line)" "rtcm_biases: failed"
+    whole=$crates/rtcm_biases/data/whole-1059.bin
+    "$bin/rtcm_biases" --latest --edition 2 "$whole" "$data/rtcm3.bndm.bin" >"$work/out" 2>"$work/err"
+    check "--latest: the first provider" "$(sed -n 1,5p "$work/out" | tr -s ' ' | tr '\n' ';')" \
+        "provider 258, solution 1; satellite signal raw metres IOD; 5 1C 101 1.01 0; 5 2W -50 -0.50 15; 17 1Y 8191 81.91 15;"
+    check "--latest: the second provider" "$(sed -n 6,9p "$work/out" | tr -s ' ' | tr '\n' ';')" \
+        "provider 259, solution 0; satellite signal raw metres IOD; 5 1C -8192 -81.92 3; 63 5Q 7 0.07 3;"
+    check "--latest: what was read" "$(tail -n 1 "$work/out")" "3 messages 1059 read, 1 refused, 0 biases without room"
+    check "--latest: nothing is said where all is well" "$(cat "$work/err")" ""
+    "$bin/rtcm_biases" --latest "$whole" "$work/missing" >"$work/out" 2>"$work/err"
+    check "--latest, a file that is not there" "$(last_line)" "rtcm_biases: failed"
+    "$bin/rtcm_biases" -- --latest >"$work/out" 2>"$work/err"
+    check "--latest behind -- names a file" "$(grep -c '^--latest: ' "$work/err")" 1
     printf 'no frame at all' >"$work/noise"
     check "no frames" "$("$bin/rtcm_biases" "$work/noise" | grep -c '^  no frames$')" 1
     check "no such message" "$("$bin/rtcm_biases" "$data/rtcm3.bin" | grep -c '^  no message 1059 or 1230 in 2 frames$')" 1

@@ -1,5 +1,6 @@
 // Shows the biases of recordings: each message 1059 and 1230 as a table.
 mod found;
+mod latest;
 mod options;
 mod table;
 
@@ -39,9 +40,17 @@ fn main() {
         arguments::failed(b"rtcm_biases");
         return;
     }
-    if !show_all(asked.rest) {
+    if !run(asked.rest) {
         arguments::failed(b"rtcm_biases");
     }
+}
+
+// Does what is asked for, and answers whether all went well.
+fn run(rest: usize) -> bool {
+    if options::is_latest(rest) {
+        return latest::all(rest);
+    }
+    show_all(rest)
 }
 
 // Shows what the arguments name, one after another, and answers whether all went well.

@@ -85,10 +85,37 @@ fn asked_at(i: usize, rest: usize) -> Kind {
             Bit::Wrong => Kind::Unknown,
         };
     }
+    if is_latest_at(i, rest) {
+        return Kind::Own;
+    }
     match kind_at(i, rest) {
         Kind::Own => with_number(i),
         other => other,
     }
+}
+
+// Whether one of the arguments is --latest.
+pub fn is_latest(rest: usize) -> bool {
+    let count = os::arg_count();
+    let mut i: usize = 1;
+    while i < count {
+        if is_latest_at(i, rest) {
+            return true;
+        }
+        i += 1;
+    }
+    false
+}
+
+// Whether argument i is --latest, the option that has no number.
+fn is_latest_at(i: usize, rest: usize) -> bool {
+    if is_behind(i, rest) {
+        return false;
+    }
+    if is_number(i, rest) {
+        return false;
+    }
+    is_word(i, b"--latest")
 }
 
 // An own option, if a word stands behind it.
@@ -271,7 +298,7 @@ fn wrong_number() {
 pub fn help() {
     io::write_all(
         STDOUT_FILENO,
-        b"rtcm_biases [--start N] [--start-1059 N] [--start-1230 N] [--edition N] [--] FILE..
+        b"rtcm_biases [--start N] [--start-1059 N] [--start-1230 N] [--edition N] [--latest] [--] FILE..
 
 Shows the biases in the RTCM 3 messages 1059 (GPS) and 1230 (GLONASS) of each file (- is standard
 input): a table for each message, with the raw numbers and the metres that they stand for, below
@@ -284,6 +311,8 @@ A signal number that is reserved stands in brackets. A table is shown when its f
   --start N       both
                   of a block that starts elsewhere the header is not shown
   --edition N     in the files behind it the signals of 1059 have the names of edition N, 1 (as a rule) or 2
+  --latest        no tables: behind the last file the latest bias of each satellite and signal, by
+                  provider and solution, of all whole messages 1059
   --              each word behind it names a file
   --version       the version
   -h, --help      this text

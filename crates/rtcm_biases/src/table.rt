@@ -64,13 +64,10 @@ pub fn message(
         &mut biases,
     );
     let Found::Records { head, count, end } = found else {
-        heading(number, place, out, at);
-        refusal(found, out, at);
+        refused(number, place, found, out, at);
         return one_refused(tally);
     };
-    heading(number, place, out, at);
-    told(b": ", count, b" biases\n", out, at);
-    before(head, out, at);
+    accepted(number, place, head, count, out, at);
     rows(
         number,
         edition,
@@ -81,9 +78,33 @@ pub fn message(
         out,
         at,
     );
-    let left = left_behind(data.len(), end);
+    ended(left_behind(data.len(), end), tally, out, at)
+}
+
+// The end of a message that is read, with the bits that are left over behind its block.
+fn ended(left: usize, tally: Tally, out: &mut [u8; 65536], at: &mut usize) -> Tally {
     left_over(left, out, at);
     one_read(tally, left)
+}
+
+// The head of a message that is read: its number, its place, how many biases it has, and what its header tells.
+fn accepted(
+    number: u64,
+    place: u64,
+    head: Head,
+    count: usize,
+    out: &mut [u8; 65536],
+    at: &mut usize,
+) {
+    heading(number, place, out, at);
+    told(b": ", count, b" biases\n", out, at);
+    before(head, out, at);
+}
+
+// The head of one that is refused: its number, its place, and why.
+fn refused(number: u64, place: u64, found: Found, out: &mut [u8; 65536], at: &mut usize) {
+    heading(number, place, out, at);
+    refusal(found, out, at);
 }
 
 // The head of a message: its number and its place.
@@ -188,7 +209,7 @@ fn signal_of(number: u64, edition: u32, signal: u8) -> SignalFound {
     signals::signal_of(1, signal as u32)
 }
 
-fn of_edition(answer: Signal1059) -> SignalFound {
+pub fn of_edition(answer: Signal1059) -> SignalFound {
     match answer {
         Signal1059::At(band, letter) => SignalFound::At(band, letter),
         _ => SignalFound::None,
@@ -197,6 +218,10 @@ fn of_edition(answer: Signal1059) -> SignalFound {
 
 // The name of a signal: its band and its letter, or its number in brackets.
 fn name(found: SignalFound, number: u8, out: &mut [u8; 65536], at: &mut usize) {
+    named(found, number as u64, out, at);
+}
+
+pub fn named(found: SignalFound, number: u64, out: &mut [u8; 65536], at: &mut usize) {
     match found {
         SignalFound::At(band, letter) => {
             unsigned(out, at, band as u64, 7);
@@ -208,11 +233,11 @@ fn name(found: SignalFound, number: u8, out: &mut [u8; 65536], at: &mut usize) {
     }
 }
 
-fn bracket(number: u8, out: &mut [u8; 65536], at: &mut usize) {
+fn bracket(number: u64, out: &mut [u8; 65536], at: &mut usize) {
     if number < 10 {
         text(out, at, b" ");
     }
-    phrase(out, at, b"    (", number as u64, 0, b")");
+    phrase(out, at, b"    (", number, 0, b")");
 }
 
 // The raw number and the metres of a row.
@@ -222,7 +247,7 @@ fn values(number: u64, bias: i16, out: &mut [u8; 65536], at: &mut usize) {
     text(out, at, b"\n");
 }
 
-fn amount(bias: i16) -> Amount {
+pub fn amount(bias: i16) -> Amount {
     printing::amount_of(bias as i64)
 }
 
