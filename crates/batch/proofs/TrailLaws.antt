@@ -1,5 +1,5 @@
 -- The turns of the walk from frame to frame: what is listed so far are the first frames of the scan. Assumes nothing.
-use mathlib.Core.Path.{_≡_, refl, sym, ap, ap₂, _∙_, subst}
+use mathlib.Core.Path.{_≡_, refl, sym, ap, ap₂, _∙_, subst, subst₂}
 use mathlib.Core.Bool.{true, false, cond}
 use mathlib.Core.List.{List, [], _∷_, _++_, append-assoc, append-nil}
 use Prim.Native.Nat.{ℕ, _+_, _-_, _≤_, _<_}
@@ -20,7 +20,8 @@ use Rattle.frames.proofs.JoinLaws.{held-waits}
 use Rattle.frames.proofs.ModeLaws.{lawful, waits-short}
 use Rattle.frames.proofs.WalkLaws.{Stops, Finds}
 use Rattle.batch.specs.Batch.{behind, firstOf, kindNumber, startsOf, lengthsOf, kindsOf, seamOf}
-use Rattle.batch.specs.Steps.{kindNumberAt, Lists, Walks}
+use Rattle.batch.specs.Steps.{kindNumberAt, walked, Lists, Walks}
+use Rattle.batch.specs.declared.walk.Walked.{Walked}
 use Rattle.batch.proofs.ListLaws.{map-snoc, length-map, behind-snoc, framed-snoc, seam-snoc, next-place}
 use Rattle.batch.proofs.KindLaws.{decided-there, kind-at, not-longer}
 
@@ -181,14 +182,14 @@ module _ (mode : ℕ) (h p : List ℕ) (a : Lists) where
 
     -- ---- the lists are full
 
-    pub gone-full : length h ≤ 1029 → length (a .starts) ≤ k
-        → Walks (record { count = k; stop = i; framed = m; full = true }) (firstOf (length (a .starts)) (scan d (h ++ p))) (length h) (length p) a b
-    gone-full lh l =
+    pub gone-full : (w : Walked) → w ≡ walked k i m true → length h ≤ 1029 → length (a .starts) ≤ k
+        → Walks w (firstOf (length (a .starts)) (scan d (h ++ p))) (length h) (length p) a b
+    gone-full w ew lh l =
         let fs = handed 0 (g .items) in
         let rest = scan d (drop i (h ++ p)) .items in
         let e : handed 0 (scan d (h ++ p) .items) ≡ fs ++ handed (0 + length (bytesOf (g .items))) rest = ap (λ r. handed 0 (r .items)) (g .gives) ∙ handed-append 0 (g .items) rest in
         let n : length fs ≡ length (a .starts) = omega (arith, g .count, g .most) in
-        subst (λ f. Walks (record { count = k; stop = i; framed = m; full = true }) f (length h) (length p) a b)
+        subst₂ (λ v f. Walks v f (length h) (length p) a b) (sym ew)
         (sym (first-full (length (a .starts)) (scan d (h ++ p)) fs (handed (0 + length (bytesOf (g .items))) rest) e n))
         (record {
           count = sym (g .count);
@@ -204,9 +205,9 @@ module _ (mode : ℕ) (h p : List ℕ) (a : Lists) where
 
     -- ---- there are no more frames
 
-    pub gone-all : (q : ℕ) → Stops (framingOf mode) (h ++ p) i q → k < length (a .starts)
-        → Walks (record { count = k; stop = q; framed = m; full = false }) (firstOf (length (a .starts)) (scan d (h ++ p))) (length h) (length p) a b
-    gone-all q x l =
+    pub gone-all : (q : ℕ) → Stops (framingOf mode) (h ++ p) i q → (w : Walked) → w ≡ walked k q m false → k < length (a .starts)
+        → Walks w (firstOf (length (a .starts)) (scan d (h ++ p))) (length h) (length p) a b
+    gone-all q x v ev l =
         let fs = handed 0 (g .items) in
         let all : scan d (h ++ p) ≡ record { items = g .items ++ x .items; held = drop q (h ++ p) } = g .gives ∙ ap (after (g .items)) (x .gives) in
         let e : handed 0 (scan d (h ++ p) .items) ≡ fs =
@@ -216,7 +217,7 @@ module _ (mode : ℕ) (h p : List ℕ) (a : Lists) where
         ∙ omega (arith, g .place, bytes-alone (x .items) (x .none), x .count) in
         let w : length (drop q (h ++ p)) < 1029 =
         holding-short mode (drop q (h ++ p)) (subst (λ t. scan d t ≡ holding t) (ap (λ r. r .held) all) (held-waits d (h ++ p))) in
-        subst (λ f. Walks (record { count = k; stop = q; framed = m; full = false }) f (length h) (length p) a b)
+        subst₂ (λ v f. Walks v f (length h) (length p) a b) (sym ev)
         (sym (first-few (length (a .starts)) (scan d (h ++ p)) fs e (omega (arith, g .count))))
         (record {
           count = sym (g .count);

@@ -1,6 +1,6 @@
 -- What private functions of the code compute. No promise to a caller rests on this file. Assumes nothing.
 use mathlib.Core.Path.{_≡_}
-use mathlib.Core.Bool.{cond}
+use mathlib.Core.Bool.{Bool, cond}
 use mathlib.Core.List.{List, []}
 use Prim.Native.Nat.{ℕ, _+_, _-_, _≤_}
 use lib.ListN.{length}
@@ -17,6 +17,10 @@ use Rattle.batch.specs.declared.walk.Walked.{Walked}
 -- the number of a frame's kind, by its first byte
 abbrev pub kindNumberAt : ℕ → ℕ
 kindNumberAt x = cond (eqb x 0xB5) 1 0
+
+-- a walk by its numbers
+abbrev pub walked : ℕ → ℕ → ℕ → Bool → Walked
+walked n s m f = record { count = n; stop = s; framed = m; full = f }
 
 -- the areas that a walk writes
 pub record Lists : Type 0 where

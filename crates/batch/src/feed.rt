@@ -65,6 +65,22 @@ pub fn feed_all(
     if 1 < scanner.mode {
         return FedAll::State;
     }
+    list_frames(held, scanner, piece, seam, starts, lengths, kinds)
+}
+
+// The same of areas that have their sizes and a scanner that is in order.
+fn list_frames(
+    held: &mut [u8],
+    scanner: Scanner,
+    piece: &[u8],
+    seam: &mut [u8],
+    starts: &mut [u32],
+    lengths: &mut [u32],
+    kinds: &mut [u8],
+) -> FedAll
+    requires { ⌜ (length (now held) ≡ 1029) × (length (now seam) ≡ 2058) × (scanner .count ≤ 1029) × (scanner .count ≤ scanner .taken) × (scanner .taken ≤ 2 ^ 48) × (scanner .mode ≤ 1) ⌝ }
+    ensures { λ r. ⌜ outcome (toldAll r) (areas (now (held .exit)) (now (seam .exit)) (now (starts .exit)) (now (lengths .exit)) (now (kinds .exit))) ≡ feedAllOf (framingOf (scanner .mode)) (areas (now (held .entry)) (now (seam .entry)) (now (starts .entry)) (now (lengths .entry)) (now (kinds .entry))) (known scanner) (now (piece .entry)) ⌝ }
+{
     if 65536 < piece.len() {
         return FedAll::Size;
     }
@@ -81,15 +97,8 @@ pub fn feed_all(
         return FedAll::Room(1);
     }
     let count = scanner.count;
-    let found = walk::walk(
-        &held[0..count],
-        piece,
-        scanner.mode,
-        seam,
-        starts,
-        lengths,
-        kinds,
-    );
+    let mode = scanner.mode;
+    let found = walk::walk(&held[0..count], piece, mode, seam, starts, lengths, kinds);
     settle(held, scanner, piece, found)
 }
 

@@ -10,7 +10,7 @@ ghost use Rattle.frames.specs.Framing.{decide};
 ghost use Rattle.frames.specs.Scan.{scan};
 ghost use Rattle.frames.specs.Modes.{framingOf};
 ghost use Rattle.batch.specs.Batch.{firstOf};
-ghost use Rattle.batch.specs.Steps.{kindNumberAt, lists, Fit, Walks};
+ghost use Rattle.batch.specs.Steps.{kindNumberAt, walked, lists, Fit, Walks};
 use crate::copy;
 use frames::scan;
 use frames::scan::Next;
@@ -43,12 +43,7 @@ pub(crate) fn walk(
     while k < starts.len() {
         match scan::next_across(held, piece, i, mode) {
             Next::Held(stop) => {
-                return Walked {
-                    count: k,
-                    stop,
-                    framed,
-                    full: false,
-                };
+                return ended(k, stop, framed, false);
             }
             Next::Frame { place, length } => {
                 copy_early(seam, held, piece, place, length);
@@ -61,11 +56,17 @@ pub(crate) fn walk(
             }
         }
     }
+    ended(k, i, framed, true)
+}
+
+fn ended(count: usize, stop: usize, framed: usize, full: bool) -> Walked
+    ensures { λ r. ⌜ r ≡ walked count stop framed full ⌝ }
+{
     Walked {
-        count: k,
-        stop: i,
+        count,
+        stop,
         framed,
-        full: true,
+        full,
     }
 }
 

@@ -58,25 +58,25 @@ loop-holds : tie.Need-loop-holds Inv-loop μ-loop
 loop-holds c = gone-none _ _ _ _
 
 same-length : tie.Need-same-length Inv-loop μ-loop
-same-length c = c .before .before .before .before .before .loop .inv .seams
+same-length c = c .before .before .before .before .before .before .loop .inv .seams
 
 same-length-2 : tie.Need-same-length-2 Inv-loop μ-loop
-same-length-2 c = c .before .before .before .before .before .loop .inv .places
+same-length-2 c = c .before .before .before .before .before .before .loop .inv .places
 
 same-length-3 : tie.Need-same-length-3 Inv-loop μ-loop
-same-length-3 c = c .before .before .before .before .before .loop .inv .counts
+same-length-3 c = c .before .before .before .before .before .before .loop .inv .counts
 
 same-length-4 : tie.Need-same-length-4 Inv-loop μ-loop
-same-length-4 c = c .before .before .before .before .before .loop .inv .sorts
+same-length-4 c = c .before .before .before .before .before .before .loop .inv .sorts
 
 returns : tie.Need-returns Inv-loop μ-loop
 returns c =
-    let a = c .before .before .before .before .before .before .before .before .before .before .before .before .args in
-    let l = c .before .before .before .before .before .loop in
-    let q = c .before .stop .given in
+    let a = c .before .before .before .before .before .before .before .before .before .before .before .before .before .args in
+    let l = c .before .before .before .before .before .before .loop in
+    let q = c .before .before .stop .given in
     let g = gone-within (a .mode) (a .held .now) (a .piece .now) _ _ _ _ _ (l .inv) in
-    let s = stops (framingOf (a .mode)) (a .held .now ++ a .piece .now) (lawful (a .mode)) (l .i) g (q .0 .0) (sym (c .before .before .before .next-across .ensures) ∙ ap toldNext (q .1)) in
-    gone-all (a .mode) (a .held .now) (a .piece .now) _ _ _ _ _ (l .inv) _ s (omega (arith, l .inv .places))
+    let s = stops (framingOf (a .mode)) (a .held .now ++ a .piece .now) (lawful (a .mode)) (l .i) g (q .0 .0) (sym (c .before .before .before .before .next-across .ensures) ∙ ap toldNext (q .1)) in
+    gone-all (a .mode) (a .held .now) (a .piece .now) _ _ _ _ _ (l .inv) _ s _ (c .ended .ensures) (omega (arith, l .inv .places))
 
 copy-early-requires : tie.Need-copy-early-requires Inv-loop μ-loop
 copy-early-requires c κs =
@@ -130,22 +130,22 @@ loop-again c =
     (c .before .before .before .copy-early .ensures) (search needs) refl refl (ap (set (l .kinds) (l .k)) (c .kind-at .ensures))
 
 same-length-5 : tie.Need-same-length-5 Inv-loop μ-loop
-same-length-5 c = c .before .loop .inv .seams
+same-length-5 c = c .before .before .loop .inv .seams
 
 same-length-6 : tie.Need-same-length-6 Inv-loop μ-loop
-same-length-6 c = c .before .loop .inv .places
+same-length-6 c = c .before .before .loop .inv .places
 
 same-length-7 : tie.Need-same-length-7 Inv-loop μ-loop
-same-length-7 c = c .before .loop .inv .counts
+same-length-7 c = c .before .before .loop .inv .counts
 
 same-length-8 : tie.Need-same-length-8 Inv-loop μ-loop
-same-length-8 c = c .before .loop .inv .sorts
+same-length-8 c = c .before .before .loop .inv .sorts
 
 returns-2 : tie.Need-returns-2 Inv-loop μ-loop
 returns-2 c =
-    let a = c .before .before .before .before .before .before .before .before .args in
-    let l = c .before .loop in
-    gone-full (a .mode) (a .held .now) (a .piece .now) _ _ _ _ _ (l .inv) (c .before .before .before .before .before .before .before .before .pre .held) (omega (arith, l .inv .places))
+    let a = c .before .before .before .before .before .before .before .before .before .args in
+    let l = c .before .before .loop in
+    gone-full (a .mode) (a .held .now) (a .piece .now) _ _ _ _ _ (l .inv) _ (c .ended2 .ensures) (c .before .before .before .before .before .before .before .before .before .pre .held) (omega (arith, l .inv .places))
 
 pub walk-spec : {M : Type 1} → statement M
 walk-spec =
@@ -156,6 +156,7 @@ walk-spec =
     loop-holds
     (λ c κs. search needs)
     (λ c. search needs)
+    (λ c κs. search needs)
     same-length
     same-length-2
     same-length-3
@@ -176,6 +177,7 @@ walk-spec =
     add-k
     loop-less
     loop-again
+    (λ c κs. search needs)
     same-length-5
     same-length-6
     same-length-7
