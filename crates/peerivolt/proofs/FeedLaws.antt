@@ -9,7 +9,7 @@ use lib.Dec.{eqb, ltb}
 use borrow.Author.Tests.{eqb-true, eqb-false, ltb-true, ltb-false}
 use Rattle.bits.specs.Told.{Told, Accepted, Refused}
 use Rattle.bits.specs.Outcome.{outcome}
-use Rattle.frames.specs.Rtcm.{Why, Kind, Rtcm, Ubx}
+use Rattle.frames.specs.Rtcm.{Kind, Rtcm, Ubx}
 use Rattle.frames.specs.Modes.{framingOf}
 use Rattle.frames.specs.Framing.{Framing, decide}
 use Rattle.frames.specs.Scan.{Handed, scan, framed, placed, skipsBefore}
@@ -28,7 +28,7 @@ use Rattle.peerivolt.specs.Feeding.{moreNumbers, frameNumbers, pvFeed, P
 
 -- ---- no refusal has the number 0
 
-abbrev Nonzero : Told (FedAnswer Kind) → Type 0
+abbrev pub Nonzero : Told (FedAnswer Kind) → Type 0
 Nonzero (Accepted r) = Unit {0}
 Nonzero (Refused n carried) = n ≡ 0 → ⊥
 
@@ -36,10 +36,7 @@ called-nonzero : {W : Type 0} (G : Fed W Kind) (x : Scanner) (a o : List ℕ) �
 called-nonzero (fed.More t is g) x a o = tt
 called-nonzero (fed.Frame t is k f g) x a o = tt
 
-module _ (mode : ℕ) (a : List ℕ) (x : Scanner) (p o : List ℕ) where
-  abbrev F : Framing Why Kind
-  F = framingOf mode
-
+module _ {W : Type 0} (F : Framing W Kind) (a : List ℕ) (x : Scanner) (p o : List ℕ) where
   by : (w : FedOutcome Kind) → feedOf F a x p o ≡ w → Nonzero (w .answer) → Nonzero (feedOf F a x p o .answer)
   by w e h = subst (λ (x : FedOutcome Kind). Nonzero (x .answer)) (sym e) h
 
@@ -76,7 +73,7 @@ module _ (mode : ℕ) (a : List ℕ) (x : Scanner) (p o : List ℕ) where
     past-area true e = by _ (wrong-count F a x p o area (ltb-true 1029 (x .count) e)) (λ k. omega arith)
     past-area false e = past-count (ltb-false 1029 (x .count) e) (ltb (x .taken) (x .count)) refl
 
-  nonzero : Nonzero (feedOf F a x p o .answer)
+  pub nonzero : Nonzero (feedOf F a x p o .answer)
   nonzero = go (eqb (length a) 1029) refl
     where
       go : (b : Bool) → eqb (length a) 1029 ≡ b → Nonzero (feedOf F a x p o .answer)
@@ -85,7 +82,7 @@ module _ (mode : ℕ) (a : List ℕ) (x : Scanner) (p o : List ℕ) where
 
 -- ---- from the eight numbers back to the answer
 
-same-kind : (j k : Kind) → kindNumber j ≡ kindNumber k → j ≡ k
+pub same-kind : (j k : Kind) → kindNumber j ≡ kindNumber k → j ≡ k
 same-kind Rtcm Rtcm e = refl
 same-kind Ubx Ubx e = refl
 same-kind Rtcm Ubx e = absurd (omega arith)
@@ -114,7 +111,7 @@ is-frame (Refused c carried) z l t s i k m n e = absurd (z (ap (λ n. n .number)
 
 -- ---- one call that returns 0
 
-sized-zero : {Areas : Type 0} (c : Bool) (e : List ℕ) (x : Areas) (r : Returned Areas) {e' : List ℕ} {y : Areas} → ifSized c e x r ≡ returned 0 e' y → r ≡ returned 0 e' y
+pub sized-zero : {Areas : Type 0} (c : Bool) (e : List ℕ) (x : Areas) (r : Returned Areas) {e' : List ℕ} {y : Areas} → ifSized c e x r ≡ returned 0 e' y → r ≡ returned 0 e' y
 sized-zero true e x r h = h
 sized-zero false e x r h = let z : _≡_ {A = ℕ} 9 0 = ap (λ n. n .answer .number) h in absurd (omega arith)
 
@@ -129,7 +126,7 @@ module _ (mode : ℕ) (a : List ℕ) (m n : ℕ) (p o e : List ℕ) {b q : List 
   more-call h =
       let x = scannerOf m n mode in
       let g = tells a o (feedOf (framingOf mode) a x p o) e h in
-      let r = is-more (feedOf (framingOf mode) a x p o .answer) (nonzero mode a x p o) t s m' n' (g .0) in
+      let r = is-more (feedOf (framingOf mode) a x p o .answer) (nonzero (framingOf mode) a x p o) t s m' n' (g .0) in
       let f : feedOf (framingOf mode) a x p o ≡ outcome (Accepted (More t s (r .0))) (b, q) = λ j. outcome (r .1 j) (g .1 j) in
       let k = more-keeps (framingOf mode) a x p o (lawful mode) t s (r .0) b q (sym f) in
       f ∙ (λ j. outcome (Accepted (More t s (record { count = r .2 j; taken = r .3 j; mode = k .3 j }))) (b, q))
@@ -139,7 +136,7 @@ module _ (mode : ℕ) (a : List ℕ) (m n : ℕ) (p o e : List ℕ) {b q : List 
   frame-call {l} {i} {k} h =
       let x = scannerOf m n mode in
       let g = tells a o (feedOf (framingOf mode) a x p o) e h in
-      let r = is-frame (feedOf (framingOf mode) a x p o .answer) (nonzero mode a x p o) l t s i k m' n' (g .0) in
+      let r = is-frame (feedOf (framingOf mode) a x p o .answer) (nonzero (framingOf mode) a x p o) l t s i k m' n' (g .0) in
       let f : feedOf (framingOf mode) a x p o ≡ outcome (Accepted (Frame l t s i k (r .0))) (b, q) = λ j. outcome (r .1 j) (g .1 j) in
       let c = frame-keeps (framingOf mode) a x p o (lawful mode) l t s i k (r .0) b q (sym f) in
       f ∙ (λ j. outcome (Accepted (Frame l t s i k (record { count = r .2 j; taken = r .3 j; mode = c .4 j }))) (b, q))
@@ -155,7 +152,7 @@ module _ (mode : ℕ) where
   offers end = frames.end
   offers (piece x xs) = frames.piece (offered x) (offers xs)
 
-  calls : {s a : List ℕ} {fs : List (Handed Kind)} {z m n : ℕ} → PvCalls mode s fs z a m n → frames.Calls (framingOf mode) s fs z a (scannerOf m n mode)
+  pub calls : {s a : List ℕ} {fs : List (Handed Kind)} {z m n : ℕ} → PvCalls mode s fs z a m n → frames.Calls (framingOf mode) s fs z a (scannerOf m n mode)
   calls (fresh a) = frames.fresh a mode
   calls (more {s} {a} {b} {q} {fs} {z} {m} {n} {t} p o e c h) = frames.more {q = q} {t = t} p o (calls c) (more-call mode a m n p o e h)
   calls (frame {s} {a} {b} {q} {fs} {z} {m} {n} {l} {t} k p o e c h) = frames.frame {q = q} {t = t} p o (calls c) (frame-call mode a m n p o e h)

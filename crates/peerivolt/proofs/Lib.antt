@@ -7,3 +7,4 @@ pub mod FeedLaws
 pub mod Examples
 pub mod ClosingLaws
 pub mod AllFramesLaws
+pub mod EndedLaws

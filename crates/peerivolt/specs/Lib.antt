@@ -14,3 +14,4 @@ pub mod Messages
 pub mod Why
 pub mod Closing
 pub mod AllFrames
+pub mod Ended

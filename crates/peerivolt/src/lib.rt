@@ -3,7 +3,6 @@
 pub mod all_frames;
 pub mod biases;
 pub mod blocks;
-pub mod closing;
 pub mod comparing;
 pub mod entries;
 mod extra;
@@ -12,6 +11,7 @@ pub mod message_1001;
 pub mod message_1059;
 pub mod message_1230;
 pub mod one_frame;
+pub mod recording_end;
 pub mod scanner;
 pub mod signals;
 pub mod signals1059;

@@ -2,8 +2,8 @@
 use mathlib.Core.Path.{_∙_}
 use borrow.Author.Needs.{needs}
 use Rattle.peerivolt.proofs.ClosingLaws.{not-closed, not-closing, closed}
-use Rattle.peerivolt.proofs.closing.pv_close.Statement.{statement}
-use Rattle.peerivolt.proofs.closing.pv_close.Tie as tie
+use Rattle.peerivolt.proofs.recording_end.pv_close.Statement.{statement}
+use Rattle.peerivolt.proofs.recording_end.pv_close.Tie as tie
 
 returns : tie.Need-returns
 returns c = not-closed _ _ _ _ (c .if1 .taken)

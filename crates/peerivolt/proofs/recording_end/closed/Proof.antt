@@ -5,8 +5,8 @@ use Rattle.frames.specs.Answers.{known, toldKind, toldClosed}
 use Rattle.peerivolt.specs.Closing.{closedValues}
 use Rattle.peerivolt.proofs.AnswerLaws.{tells}
 use Rattle.peerivolt.proofs.ClosingLaws.{kind-closed}
-use Rattle.peerivolt.proofs.closing.closed.Statement.{statement}
-use Rattle.peerivolt.proofs.closing.closed.Tie as tie
+use Rattle.peerivolt.proofs.recording_end.closed.Statement.{statement}
+use Rattle.peerivolt.proofs.recording_end.closed.Tie as tie
 
 returns : tie.Need-returns
 returns c = tells closedValues toldClosed (c .before .answer .given .1)
