@@ -8,3 +8,6 @@ pub mod PlaceLaws
 pub mod CodeLaws
 pub mod ToldLaws
 pub mod KeepLaws
+pub mod BiasLaws
+pub mod FirstLaws
+pub mod RunLaws

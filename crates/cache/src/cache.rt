@@ -102,7 +102,7 @@ pub fn lookup(entries: &[[u16; 7]], key: Key) -> Found
 }
 
 // Whether each number of the key lies within its message field.
-fn fits_key(key: Key) -> bool
+pub fn fits_key(key: Key) -> bool
     ensures { λ r. ⌜ r ≡ fitsKey (keyOf key) ⌝ }
 {
     if 0xFFFF < key.provider {
@@ -118,7 +118,7 @@ fn fits_key(key: Key) -> bool
 }
 
 // Whether IOD and bias lie within theirs.
-fn fits_value(iod: u32, bias: u32) -> bool
+pub fn fits_value(iod: u32, bias: u32) -> bool
     ensures { λ r. ⌜ r ≡ fitsValue (value iod bias) ⌝ }
 {
     if 15 < iod {
@@ -176,7 +176,7 @@ fn vacant(entries: &[[u16; 7]]) -> usize
 }
 
 // In use, with the whole key of w: provider, solution, satellite and signal.
-fn has_key(e: [u16; 7], w: [u16; 7]) -> bool
+pub fn has_key(e: [u16; 7], w: [u16; 7]) -> bool
     ensures { λ r. ⌜ r ≡ hasKey (keyIn w) e ⌝ }
 {
     if e[0] == 0 {
@@ -195,7 +195,7 @@ fn has_key(e: [u16; 7], w: [u16; 7]) -> bool
 }
 
 // 16 bits of two's complement in 32.
-fn widened(x: u16) -> u32
+pub fn widened(x: u16) -> u32
     ensures { λ r. ⌜ r ≡ widened x ⌝ }
 {
     if x < 0x8000 {
