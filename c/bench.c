@@ -93,7 +93,7 @@ static void print_head(void)
 }
 
 /* Ends the program unless all sides answer the same and leave every lent area the same, in what each of them gives. */
-static void check_answers(const char *name, const struct side *sides, size_t n)
+void check_answers(const char *name, const struct side *sides, size_t n)
 {
     comparing = true;
     struct answers ours = sides[0].work(sides[0].library, sides[0].input, 1);
@@ -171,6 +171,7 @@ int main(void)
     print_limit("reading 1059, to the plain program", costs.read.to[PLAIN], " times", 2, true);
     print_limit("writing 1059, to the plain program", costs.write.to[PLAIN], " times", 2, true);
     limits_of_messages();
+    limit_of_cache();
     free(clean.at);
     return all_met ? 0 : 1;
 }

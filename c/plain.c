@@ -79,6 +79,26 @@ uint32_t plain_empty_call(uint8_t *held, size_t held_len, size_t held_count, uin
     return PV_ACCEPTED;
 }
 
+uint32_t plain_cache_lookup(const struct pv_cache_entry *entries, size_t entries_len, uint32_t provider, uint32_t solution,
+                            uint32_t satellite, uint32_t signal, uint64_t *extra, size_t extra_len)
+{
+    if (extra_len != PV_EXTRA_SIZE || entries_len > PV_CACHE_MAX)
+        return PV_SIZE;
+    memset(extra, 0, PV_EXTRA_SIZE * sizeof *extra);
+    if (provider > 65535 || solution > 15 || satellite > 63 || signal > 31)
+        return PV_RANGE;
+    for (size_t i = 0; i < entries_len; i++) {
+        const struct pv_cache_entry *entry = &entries[i];
+        if (entry->in_use && entry->provider == provider && entry->solution == solution &&
+            entry->satellite == satellite && entry->signal == signal) {
+            extra[PV_AT_CACHE_IOD] = entry->iod;
+            extra[PV_AT_CACHE_BIAS] = (uint64_t)(int64_t)entry->bias;
+            return PV_ACCEPTED;
+        }
+    }
+    return PV_ABSENT;
+}
+
 #endif
 
 /* ---- Fields. ---- */

@@ -40,6 +40,11 @@ PLAIN_DECLARE(table)
 /* The loop over bytes that are not D3: the place of the first D3, or the length. */
 size_t plain_find_preamble(const uint8_t *bytes, size_t bytes_len);
 
+/* A plain walk along a bias cache, with the parameters of pv_cache_lookup. */
+struct pv_cache_entry;
+uint32_t plain_cache_lookup(const struct pv_cache_entry *entries, size_t entries_len, uint32_t provider, uint32_t solution,
+                            uint32_t satellite, uint32_t signal, uint64_t *extra, size_t extra_len);
+
 /* A call with the parameters of feeding that does nothing. */
 uint32_t plain_empty_call(uint8_t *held, size_t held_len, size_t held_count, uint64_t taken, uint32_t mode,
                           const uint8_t *piece, size_t piece_len, uint8_t *out, size_t out_len, uint64_t *extra,
