@@ -5,25 +5,61 @@
 // A byte adds to the checksum of its tail what it is times a weight: the weight of the last byte, moved on by eight bits for
 // each byte behind it. Products are left unreduced in a running sum, and the sum is reduced where a checksum is stored.
 ghost use mathlib.Core.Path.{_≡_};
-ghost use Prim.Native.Nat.{_*_, _^_, _<_};
+ghost use Prim.Native.Nat.{_*_, _^_, _≤_, _<_};
 ghost use lib.ListN.{length};
 ghost use Rattle.bits.specs.Onto.{onto};
 ghost use Rattle.bits.specs.Crc.{crcByte};
 ghost use Rattle.window.specs.Tails.{tails, stored};
-ghost use Rattle.window.specs.Steps.{times, low};
+ghost use Rattle.window.specs.Steps.{times, low, Weights, Multiplied, Products};
+
+mod weights;
 
 // Stores the checksums of the tails at the front of the output, one more than the part has bytes. An output with no room
-// for them stays as it is.
+// for them stays as it is. Up to 4,096 bytes the products are taken first, each by itself: several at once.
 pub fn tails(part: &[u8], out: &mut [u32])
     ensures { λ _. ⌜ now (out .exit) ≡ stored (now (part .entry)) (now (out .entry)) ⌝ }
 {
     if out.len() <= part.len() {
         return;
     }
-    fill(part, out);
+    if 4096 < part.len() {
+        fill(part, out);
+        return;
+    }
+    let table = weights::WEIGHTS;
+    products(part, &table, out);
+    add_up(part, out);
 }
 
-// The same where there is room, from the last tail to the first.
+// Stores the product of each byte with its weight.
+fn products(part: &[u8], weights: &[u32; 4096], out: &mut [u32])
+    requires { ⌜ (length (now part) ≤ 4096) × (length (now part) < length (now out)) × Weights (now weights) ⌝ }
+    ensures { λ _. ⌜ Products (now (part .entry)) (now (out .entry)) (now (out .exit)) ⌝ }
+{
+    let first = 4096 - part.len();
+    let mut k: usize = 0;
+    while k < part.len() {
+        out[k] = times(part[k] as u32, weights[first + k]);
+        k += 1;
+    }
+}
+
+// Adds up the products, from the last to the first, and stores each sum reduced.
+fn add_up(part: &[u8], out: &mut [u32])
+    requires { ⌜ (length (now part) < length (now out)) × Multiplied (now part) (now out) ⌝ }
+    ensures { λ _. ⌜ now (out .exit) ≡ onto (tails (now (part .entry))) (now (out .entry)) ⌝ }
+{
+    let mut k = part.len();
+    let mut sum: u32 = 0;
+    out[k] = 0;
+    while 0 < k {
+        k -= 1;
+        sum = sum ^ out[k];
+        out[k] = low(sum);
+    }
+}
+
+// The same of a longer part where there is room, from the last tail to the first.
 fn fill(part: &[u8], out: &mut [u32])
     requires { ⌜ length (now part) < length (now out) ⌝ }
     ensures { λ _. ⌜ now (out .exit) ≡ onto (tails (now (part .entry))) (now (out .entry)) ⌝ }
