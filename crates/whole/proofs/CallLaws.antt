@@ -6,6 +6,7 @@ use mathlib.Core.List.{List}
 use Prim.Native.Nat.{ℕ, _+_, _-_, _*_, _≤_, _<_}
 use native.Mathlib.Decide.{decLt}
 use native.Mathlib.Omega.{arith}
+use borrow.Author.Tests.{lt-ltb, le-ltb}
 use lib.Dec.{eqb}
 use lib.ListN.{getD, length}
 use Rattle.bits.specs.Told.{Told, Accepted, Refused, room}
@@ -91,3 +92,11 @@ fronted-back s p q t fs {call} past long stands room block is =
         ∙ ap (bitAt t) e
         ∙ block (k - p) (omega (arith, h, l, past))
         ∙ ap (bitAt s) (sym e)
+
+-- ---- the bits of a message, as the code adds them
+
+pub raised-huge : (n k : ℕ) → 0xFFFFFFFF < k → k ≡ raised n k
+raised-huge n k h = rw (lt-ltb 0xFFFFFFFF k h)
+
+pub raised-small : (n k : ℕ) → k ≤ 0xFFFFFFFF → n + k ≡ raised n k
+raised-small n k h = rw (le-ltb 0xFFFFFFFF k h)

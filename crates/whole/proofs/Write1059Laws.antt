@@ -24,7 +24,7 @@ use Rattle.messages.proofs.Accepts1059.{call-accepted}
 use Rattle.messages.proofs.KeepLaws.{leaves-1059}
 use Rattle.whole.specs.declared.answer.Header1059.{Header1059}
 use Rattle.whole.specs.Headers.{headerFits1059, fields1059}
-use Rattle.whole.specs.Whole.{behind, before, fronted}
+use Rattle.whole.specs.Whole.{raised, before, fronted}
 use Rattle.whole.specs.Messages.{refused1059, writeMessage1059}
 use Rattle.whole.proofs.Header1059.{front-bits}
 
@@ -78,11 +78,8 @@ module _ (e : ℕ) (s : List ℕ) (h : Header1059) (sats gs : List ℕ) (zs : Li
               goes-on o = rw (k0, le-ltb 1023 (length s) k1, eq-eqb (length sats) (length gs) k2, eq-eqb (length sats) (length zs) k3, le-ltb 1953 (length sats) k4, k5) (ap (fronted 61 (fields1059 h)) o)
 
               module _ (w : BlockWritten) {u : List ℕ} (o : outcome (toldBlock w) u ≡ write1059 e s 61 sats gs zs) where
-                pub room-carries : {n : ℕ} → w ≡ W.Room n → n ≤ 0xFFFFFFFF → outcome (room (61 + n)) u ≡ call
-                room-carries {n} r l = rw (le-ltb 0xFFFFFFFF n l) at (ap (λ (x : BlockWritten). before 61 (fields1059 h) (toldBlock x) u) (sym r) ∙ goes-on o)
-
-                pub room-huge : {n : ℕ} → w ≡ W.Room n → 0xFFFFFFFF < n → outcome (room n) u ≡ call
-                room-huge {n} r l = (rw (lt-ltb 0xFFFFFFFF n l) at (ap (λ (x : BlockWritten). before 61 (fields1059 h) (toldBlock x) u) (sym r) ∙ goes-on o))
+                pub room-carries : {n m : ℕ} → w ≡ W.Room n → m ≡ raised 61 n → outcome (room m) u ≡ call
+                room-carries r q = ap (λ (m : ℕ). outcome (room m) u) q ∙ ap (λ (x : BlockWritten). before 61 (fields1059 h) (toldBlock x) u) (sym r) ∙ goes-on o
 
                 pub front-fits : {q : ℕ} → w ≡ W.End q → Fits u 0 (fields1059 h)
                 front-fits r =

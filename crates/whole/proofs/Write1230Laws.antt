@@ -23,7 +23,7 @@ use Rattle.messages.proofs.Accepts1230.{call-accepted}
 use Rattle.messages.proofs.KeepLaws.{leaves-1230}
 use Rattle.whole.specs.declared.answer.Header1230.{Header1230}
 use Rattle.whole.specs.Headers.{headerFits1230, fields1230}
-use Rattle.whole.specs.Whole.{behind, before, fronted}
+use Rattle.whole.specs.Whole.{raised, before, fronted}
 use Rattle.whole.specs.Messages.{refused1230, writeMessage1230}
 use Rattle.whole.proofs.Header1230.{front-bits}
 
@@ -67,11 +67,8 @@ module _ (s : List ℕ) (h : Header1230) (gs : List ℕ) (zs : List ℤ) where
           goes-on o = rw (le-ltb 1023 (length s) k0, eq-eqb (length gs) (length zs) k1, le-ltb 4 (length gs) k2, k3) (ap (fronted 28 (fields1230 h)) o)
 
           module _ (w : BlockWritten) {u : List ℕ} (o : outcome (toldBlock w) u ≡ write1230 s 28 gs zs) where
-            pub room-carries : {n : ℕ} → w ≡ W.Room n → n ≤ 0xFFFFFFFF → outcome (room (28 + n)) u ≡ call
-            room-carries {n} r l = rw (le-ltb 0xFFFFFFFF n l) at (ap (λ (x : BlockWritten). before 28 (fields1230 h) (toldBlock x) u) (sym r) ∙ goes-on o)
-
-            pub room-huge : {n : ℕ} → w ≡ W.Room n → 0xFFFFFFFF < n → outcome (room n) u ≡ call
-            room-huge {n} r l = (rw (lt-ltb 0xFFFFFFFF n l) at (ap (λ (x : BlockWritten). before 28 (fields1230 h) (toldBlock x) u) (sym r) ∙ goes-on o))
+            pub room-carries : {n m : ℕ} → w ≡ W.Room n → m ≡ raised 28 n → outcome (room m) u ≡ call
+            room-carries r q = ap (λ (m : ℕ). outcome (room m) u) q ∙ ap (λ (x : BlockWritten). before 28 (fields1230 h) (toldBlock x) u) (sym r) ∙ goes-on o
 
             pub front-fits : {q : ℕ} → w ≡ W.End q → Fits u 0 (fields1230 h)
             front-fits r =

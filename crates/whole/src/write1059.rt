@@ -6,6 +6,7 @@ ghost use Rattle.formats.specs.Put.{Fits, Did};
 ghost use Rattle.messages.specs.Signals1059.{isEdition};
 ghost use Rattle.messages.specs.Answers.{toldBlock};
 ghost use Rattle.whole.specs.Headers.{headerFits1059, fields1059};
+ghost use Rattle.whole.specs.Whole.{raised};
 ghost use Rattle.whole.specs.Messages.{writeMessage1059};
 use crate::answer::Header1059;
 use crate::put;
@@ -47,14 +48,19 @@ pub fn write(
             put_front(bytes, header);
             written
         }
-        BlockWritten::Room(bits) => {
-            if 0xFFFF_FFFF < bits {
-                return written;
-            }
-            BlockWritten::Room(61 + bits)
-        }
+        BlockWritten::Room(bits) => BlockWritten::Room(with_front(bits)),
         _ => written,
     }
+}
+
+// The bits of the message whose block has `bits`. No block has 2^32 of them, so the sum is one of the machine.
+fn with_front(bits: usize) -> usize
+    ensures { λ r. ⌜ r ≡ raised 61 bits ⌝ }
+{
+    if 0xFFFF_FFFF < bits {
+        return bits;
+    }
+    61 + bits
 }
 
 // Whether there is such an edition of the signals.

@@ -5,6 +5,7 @@ ghost use Rattle.bits.specs.Outcome.{outcome};
 ghost use Rattle.formats.specs.Put.{Fits, Did};
 ghost use Rattle.messages.specs.Answers.{toldBlock};
 ghost use Rattle.whole.specs.Headers.{headerFits1230, fields1230};
+ghost use Rattle.whole.specs.Whole.{raised};
 ghost use Rattle.whole.specs.Messages.{writeMessage1230};
 use crate::answer::Header1230;
 use crate::put;
@@ -33,14 +34,19 @@ pub fn write(bytes: &mut [u8], header: Header1230, signals: &[u8], biases: &[i16
             put_front(bytes, header);
             written
         }
-        BlockWritten::Room(bits) => {
-            if 0xFFFF_FFFF < bits {
-                return written;
-            }
-            BlockWritten::Room(28 + bits)
-        }
+        BlockWritten::Room(bits) => BlockWritten::Room(with_front(bits)),
         _ => written,
     }
+}
+
+// The bits of the message whose block has `bits`. No block has 2^32 of them, so the sum is one of the machine.
+fn with_front(bits: usize) -> usize
+    ensures { λ r. ⌜ r ≡ raised 28 bits ⌝ }
+{
+    if 0xFFFF_FFFF < bits {
+        return bits;
+    }
+    28 + bits
 }
 
 // Whether the numbers of a header fit their fields.

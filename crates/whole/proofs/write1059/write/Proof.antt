@@ -2,7 +2,7 @@
 use borrow.Author.Needs.{needs}
 use mathlib.Core.Path.{sym, _∙_}
 use borrow.Author.Tests.{not-true, not-false}
-use Rattle.whole.proofs.Write1059Laws.{another-edition, too-long, uneven, uneven-too, too-many, wide-header, room-carries, room-huge, front-fits, written, other}
+use Rattle.whole.proofs.Write1059Laws.{another-edition, too-long, uneven, uneven-too, too-many, wide-header, room-carries, front-fits, written, other}
 use Rattle.whole.proofs.write1059.write.Statement.{statement}
 use Rattle.whole.proofs.write1059.write.Tie as tie
 
@@ -28,16 +28,13 @@ put-front-requires : tie.Need-put-front-requires
 put-front-requires c κs = (front-fits _ _ _ _ _ _ (sym (c .before .before .before .before .before .before .before .before .before .before .before .before .before .before .is-edition .ensures) ∙ not-false _ (c .before .before .before .before .before .before .before .before .before .before .before .before .before .if1 .left)) (c .before .before .before .before .before .before .before .before .before .before .before .before .if2 .left) (c .before .before .before .before .before .before .before .before .before .before .before .if3 .left) (c .before .before .before .before .before .before .before .before .before .before .if4 .left) (c .before .before .before .before .before .before .before .before .before .if5 .left) (sym (c .before .before .before .before .before .before .before .before .header-fits .ensures) ∙ not-false _ (c .before .before .before .before .before .before .before .if6 .left)) _ (c .before .before .before .before .before .write .ensures) (c .before .enum-told .given .1), (sym (c .before .before .before .before .before .before .before .before .header-fits .ensures) ∙ not-false _ (c .before .before .before .before .before .before .before .if6 .left)))
 
 returns-7 : tie.Need-returns-7
-returns-7 c = room-huge _ _ _ _ _ _ (sym (c .before .before .before .before .before .before .before .before .before .before .before .before .before .before .before .is-edition .ensures) ∙ not-false _ (c .before .before .before .before .before .before .before .before .before .before .before .before .before .before .if1 .left)) (c .before .before .before .before .before .before .before .before .before .before .before .before .before .if2 .left) (c .before .before .before .before .before .before .before .before .before .before .before .before .if3 .left) (c .before .before .before .before .before .before .before .before .before .before .before .if4 .left) (c .before .before .before .before .before .before .before .before .before .before .if5 .left) (sym (c .before .before .before .before .before .before .before .before .before .header-fits .ensures) ∙ not-false _ (c .before .before .before .before .before .before .before .before .if6 .left)) _ (c .before .before .before .before .before .before .write .ensures) (c .before .before .written .given .1) (c .if7 .taken)
+returns-7 c = written _ _ _ _ _ _ (sym (c .before .before .before .before .before .before .before .before .before .before .before .before .before .before .before .before .before .is-edition .ensures) ∙ not-false _ (c .before .before .before .before .before .before .before .before .before .before .before .before .before .before .before .before .if1 .left)) (c .before .before .before .before .before .before .before .before .before .before .before .before .before .before .before .if2 .left) (c .before .before .before .before .before .before .before .before .before .before .before .before .before .before .if3 .left) (c .before .before .before .before .before .before .before .before .before .before .before .before .before .if4 .left) (c .before .before .before .before .before .before .before .before .before .before .before .before .if5 .left) (sym (c .before .before .before .before .before .before .before .before .before .before .before .header-fits .ensures) ∙ not-false _ (c .before .before .before .before .before .before .before .before .before .before .if6 .left)) _ (c .before .before .before .before .before .before .before .before .write .ensures) (c .before .before .before .before .enum-told .given .1) (c .before .before .put-front .ensures)
 
 returns-8 : tie.Need-returns-8
-returns-8 c = written _ _ _ _ _ _ (sym (c .before .before .before .before .before .before .before .before .before .before .before .before .before .before .before .before .before .is-edition .ensures) ∙ not-false _ (c .before .before .before .before .before .before .before .before .before .before .before .before .before .before .before .before .if1 .left)) (c .before .before .before .before .before .before .before .before .before .before .before .before .before .before .before .if2 .left) (c .before .before .before .before .before .before .before .before .before .before .before .before .before .before .if3 .left) (c .before .before .before .before .before .before .before .before .before .before .before .before .before .if4 .left) (c .before .before .before .before .before .before .before .before .before .before .before .before .if5 .left) (sym (c .before .before .before .before .before .before .before .before .before .before .before .header-fits .ensures) ∙ not-false _ (c .before .before .before .before .before .before .before .before .before .before .if6 .left)) _ (c .before .before .before .before .before .before .before .before .write .ensures) (c .before .before .before .before .enum-told .given .1) (c .before .before .put-front .ensures)
+returns-8 c = room-carries _ _ _ _ _ _ (sym (c .before .before .before .before .before .before .before .before .before .before .before .before .before .before .before .is-edition .ensures) ∙ not-false _ (c .before .before .before .before .before .before .before .before .before .before .before .before .before .before .if1 .left)) (c .before .before .before .before .before .before .before .before .before .before .before .before .before .if2 .left) (c .before .before .before .before .before .before .before .before .before .before .before .before .if3 .left) (c .before .before .before .before .before .before .before .before .before .before .before .if4 .left) (c .before .before .before .before .before .before .before .before .before .before .if5 .left) (sym (c .before .before .before .before .before .before .before .before .before .header-fits .ensures) ∙ not-false _ (c .before .before .before .before .before .before .before .before .if6 .left)) _ (c .before .before .before .before .before .before .write .ensures) (c .before .before .written .given .1) (c .with-front .ensures)
 
 returns-9 : tie.Need-returns-9
-returns-9 c = room-carries _ _ _ _ _ _ (sym (c .before .before .before .before .before .before .before .before .before .before .before .before .before .before .before .is-edition .ensures) ∙ not-false _ (c .before .before .before .before .before .before .before .before .before .before .before .before .before .before .if1 .left)) (c .before .before .before .before .before .before .before .before .before .before .before .before .before .if2 .left) (c .before .before .before .before .before .before .before .before .before .before .before .before .if3 .left) (c .before .before .before .before .before .before .before .before .before .before .before .if4 .left) (c .before .before .before .before .before .before .before .before .before .before .if5 .left) (sym (c .before .before .before .before .before .before .before .before .before .header-fits .ensures) ∙ not-false _ (c .before .before .before .before .before .before .before .before .if6 .left)) _ (c .before .before .before .before .before .before .write .ensures) (c .before .before .written .given .1) (c .if7 .left)
-
-returns-10 : tie.Need-returns-10
-returns-10 c = other _ _ _ _ _ _ (sym (c .before .before .before .before .before .before .before .before .before .before .before .before .is-edition .ensures) ∙ not-false _ (c .before .before .before .before .before .before .before .before .before .before .before .if1 .left)) (c .before .before .before .before .before .before .before .before .before .before .if2 .left) (c .before .before .before .before .before .before .before .before .before .if3 .left) (c .before .before .before .before .before .before .before .before .if4 .left) (c .before .before .before .before .before .before .before .if5 .left) (sym (c .before .before .before .before .before .before .header-fits .ensures) ∙ not-false _ (c .before .before .before .before .before .if6 .left)) (c .before .before .before .write .result) (c .before .before .before .write .ensures) (c .match .keys3)
+returns-9 c = other _ _ _ _ _ _ (sym (c .before .before .before .before .before .before .before .before .before .before .before .before .is-edition .ensures) ∙ not-false _ (c .before .before .before .before .before .before .before .before .before .before .before .if1 .left)) (c .before .before .before .before .before .before .before .before .before .before .if2 .left) (c .before .before .before .before .before .before .before .before .before .if3 .left) (c .before .before .before .before .before .before .before .before .if4 .left) (c .before .before .before .before .before .before .before .if5 .left) (sym (c .before .before .before .before .before .before .header-fits .ensures) ∙ not-false _ (c .before .before .before .before .before .if6 .left)) (c .before .before .before .write .result) (c .before .before .before .write .ensures) (c .match .keys3)
 
 pub write-spec : {M : Type 1} → statement M
 write-spec =
@@ -55,12 +52,10 @@ write-spec =
     (λ c. search needs)
     put-front-requires
     (λ c. search needs)
+    (λ c κs. search needs)
     (λ c. search needs)
     returns-7
     (λ c. search needs)
-    (λ c. search needs)
     returns-8
     (λ c. search needs)
-    returns-9
-    (λ c. search needs)
-    returns-10)
+    returns-9)

@@ -2,7 +2,7 @@
 use borrow.Author.Needs.{needs}
 use mathlib.Core.Path.{sym, _∙_}
 use borrow.Author.Tests.{not-true, not-false}
-use Rattle.whole.proofs.Write1230Laws.{too-long, uneven, too-many, wide-header, room-carries, room-huge, front-fits, written, other}
+use Rattle.whole.proofs.Write1230Laws.{too-long, uneven, too-many, wide-header, room-carries, front-fits, written, other}
 use Rattle.whole.proofs.write1230.write.Statement.{statement}
 use Rattle.whole.proofs.write1230.write.Tie as tie
 
@@ -22,16 +22,13 @@ put-front-requires : tie.Need-put-front-requires
 put-front-requires c κs = (front-fits _ _ _ _ (c .before .before .before .before .before .before .before .before .before .before .before .if1 .left) (c .before .before .before .before .before .before .before .before .before .before .if2 .left) (c .before .before .before .before .before .before .before .before .before .if3 .left) (sym (c .before .before .before .before .before .before .before .before .header-fits .ensures) ∙ not-false _ (c .before .before .before .before .before .before .before .if4 .left)) _ (c .before .before .before .before .before .write .ensures) (c .before .enum-told .given .1), (sym (c .before .before .before .before .before .before .before .before .header-fits .ensures) ∙ not-false _ (c .before .before .before .before .before .before .before .if4 .left)))
 
 returns-5 : tie.Need-returns-5
-returns-5 c = room-huge _ _ _ _ (c .before .before .before .before .before .before .before .before .before .before .before .before .if1 .left) (c .before .before .before .before .before .before .before .before .before .before .before .if2 .left) (c .before .before .before .before .before .before .before .before .before .before .if3 .left) (sym (c .before .before .before .before .before .before .before .before .before .header-fits .ensures) ∙ not-false _ (c .before .before .before .before .before .before .before .before .if4 .left)) _ (c .before .before .before .before .before .before .write .ensures) (c .before .before .written .given .1) (c .if5 .taken)
+returns-5 c = written _ _ _ _ (c .before .before .before .before .before .before .before .before .before .before .before .before .before .before .if1 .left) (c .before .before .before .before .before .before .before .before .before .before .before .before .before .if2 .left) (c .before .before .before .before .before .before .before .before .before .before .before .before .if3 .left) (sym (c .before .before .before .before .before .before .before .before .before .before .before .header-fits .ensures) ∙ not-false _ (c .before .before .before .before .before .before .before .before .before .before .if4 .left)) _ (c .before .before .before .before .before .before .before .before .write .ensures) (c .before .before .before .before .enum-told .given .1) (c .before .before .put-front .ensures)
 
 returns-6 : tie.Need-returns-6
-returns-6 c = written _ _ _ _ (c .before .before .before .before .before .before .before .before .before .before .before .before .before .before .if1 .left) (c .before .before .before .before .before .before .before .before .before .before .before .before .before .if2 .left) (c .before .before .before .before .before .before .before .before .before .before .before .before .if3 .left) (sym (c .before .before .before .before .before .before .before .before .before .before .before .header-fits .ensures) ∙ not-false _ (c .before .before .before .before .before .before .before .before .before .before .if4 .left)) _ (c .before .before .before .before .before .before .before .before .write .ensures) (c .before .before .before .before .enum-told .given .1) (c .before .before .put-front .ensures)
+returns-6 c = room-carries _ _ _ _ (c .before .before .before .before .before .before .before .before .before .before .before .before .if1 .left) (c .before .before .before .before .before .before .before .before .before .before .before .if2 .left) (c .before .before .before .before .before .before .before .before .before .before .if3 .left) (sym (c .before .before .before .before .before .before .before .before .before .header-fits .ensures) ∙ not-false _ (c .before .before .before .before .before .before .before .before .if4 .left)) _ (c .before .before .before .before .before .before .write .ensures) (c .before .before .written .given .1) (c .with-front .ensures)
 
 returns-7 : tie.Need-returns-7
-returns-7 c = room-carries _ _ _ _ (c .before .before .before .before .before .before .before .before .before .before .before .before .if1 .left) (c .before .before .before .before .before .before .before .before .before .before .before .if2 .left) (c .before .before .before .before .before .before .before .before .before .before .if3 .left) (sym (c .before .before .before .before .before .before .before .before .before .header-fits .ensures) ∙ not-false _ (c .before .before .before .before .before .before .before .before .if4 .left)) _ (c .before .before .before .before .before .before .write .ensures) (c .before .before .written .given .1) (c .if5 .left)
-
-returns-8 : tie.Need-returns-8
-returns-8 c = other _ _ _ _ (c .before .before .before .before .before .before .before .before .before .if1 .left) (c .before .before .before .before .before .before .before .before .if2 .left) (c .before .before .before .before .before .before .before .if3 .left) (sym (c .before .before .before .before .before .before .header-fits .ensures) ∙ not-false _ (c .before .before .before .before .before .if4 .left)) (c .before .before .before .write .result) (c .before .before .before .write .ensures) (c .match .keys3)
+returns-7 c = other _ _ _ _ (c .before .before .before .before .before .before .before .before .before .if1 .left) (c .before .before .before .before .before .before .before .before .if2 .left) (c .before .before .before .before .before .before .before .if3 .left) (sym (c .before .before .before .before .before .before .header-fits .ensures) ∙ not-false _ (c .before .before .before .before .before .if4 .left)) (c .before .before .before .write .result) (c .before .before .before .write .ensures) (c .match .keys3)
 
 pub write-spec : {M : Type 1} → statement M
 write-spec =
@@ -46,12 +43,10 @@ write-spec =
     (λ c. search needs)
     put-front-requires
     (λ c. search needs)
+    (λ c κs. search needs)
     (λ c. search needs)
     returns-5
     (λ c. search needs)
-    (λ c. search needs)
     returns-6
     (λ c. search needs)
-    returns-7
-    (λ c. search needs)
-    returns-8)
+    returns-7)
