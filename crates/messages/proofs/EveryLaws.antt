@@ -10,7 +10,3 @@ module _ {A : Type 0} (P : A → Type 0) where
   pub every-split : (xs ys : List A) → Every P (xs ++ ys) → Every P xs × Every P ys
   every-split [] ys a = (tt, a)
   every-split (x ∷ xs) ys a = let r = every-split xs ys (a .1) in ((a .0, r .0), r .1)
-
-  pub every-true : ((x : A) → P x) → (xs : List A) → Every P xs
-  every-true f [] = tt
-  every-true f (x ∷ xs) = (f x, every-true f xs)

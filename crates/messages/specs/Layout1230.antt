@@ -15,10 +15,11 @@ use Rattle.messages.specs.Writer.{keep}
 abbrev pub bias1230 : ℕ → ℕ → Format (List ℤ)
 bias1230 m k = times (m / 2 ^ k % 2) (twos 16)
 
--- the biases of 1C, 1P, 2C and 2P: DF423, DF424, DF425, DF426
+-- four lists, of one bias or none each
 abbrev pub Four : Type 0
 Four = List ℤ × (List ℤ × (List ℤ × List ℤ))
 
+-- the biases of 1C, 1P, 2C and 2P: DF423, DF424, DF425, DF426
 abbrev pub biases1230 : ℕ → Format Four
 biases1230 m = bias1230 m 3 then bias1230 m 2 then bias1230 m 1 then bias1230 m 0
 
