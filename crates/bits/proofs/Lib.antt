@@ -3,10 +3,11 @@ pub mod BitLaws
 pub mod SpliceLaws
 pub mod PartLaws
 pub mod SameBits
+pub mod EightLaws
 pub mod SignedCode
 pub mod SignedLaws
 pub mod FieldsLaws
-pub mod GroundLaws
+pub mod LimitLaws
 pub mod ReadLaws
 pub mod WriteLaws
 pub mod XorLaws

@@ -10,11 +10,11 @@ use lib.ListN.{length}
 use borrow.Author.Tests.{lt-ltb, le-ltb}
 use Rattle.bits.specs.Told.{Told, Accepted, Refused, size, width}
 use Rattle.bits.specs.Field.{field, missing, cutAt, Reading, reading, readBy, readUnsigned}
-use Rattle.bits.specs.Steps.{groundOf}
-use Rattle.bits.specs.declared.field.Ground.{Ground}
-use Rattle.bits.specs.declared.field.Ground.the-variants.{Firm, Size, Width}
+use Rattle.bits.specs.Steps.{limitsOf}
+use Rattle.bits.specs.declared.field.Limits.{Limits}
+use Rattle.bits.specs.declared.field.Limits.the-variants.{Kept, Size, Width}
 use Rattle.bits.proofs.FieldLaws.{field-lt}
-use Rattle.bits.proofs.GroundLaws.{onGround, by-ground, firm, is-firm}
+use Rattle.bits.proofs.LimitLaws.{byLimits, by-limits, kept, are-kept}
 
 -- ---- how many bits are missing
 
@@ -32,28 +32,28 @@ module _ (all p w : ℕ) where
   unfolding missing
   missing-within h l = (omega arith, omega arith)
 
--- ---- by the ground, as the code decides
+-- ---- by the limits, as the code decides
 
 module _ {A : Type 0} (meaning : ℕ → A) (s : List ℕ) (p w : ℕ) where
-  -- what is left to decide on firm ground
+  -- what is left to decide within the limits
   rest : Told (Reading A)
   rest = cond (ltb (length s * 8) (p + w)) (cutAt (length s) p w) (Accepted (reading (meaning (field s p w)) (p + w)))
 
-  read-on : readBy meaning s p w ≡ onGround (groundOf (length s) w) size width rest
+  read-on : readBy meaning s p w ≡ byLimits (limitsOf (length s) w) size width rest
   unfolding readBy rest
-  read-on = by-ground (length s) w size width (cond (ltb (length s * 8) (p + w)) (cutAt (length s) p w) (Accepted (reading (meaning (field s p w)) (p + w))))
+  read-on = by-limits (length s) w size width (cond (ltb (length s * 8) (p + w)) (cutAt (length s) p w) (Accepted (reading (meaning (field s p w)) (p + w))))
 
-  pub read-size : groundOf (length s) w ≡ Size → size ≡ readBy meaning s p w
+  pub read-size : limitsOf (length s) w ≡ Size → size ≡ readBy meaning s p w
   read-size e = rw (read-on, e)
 
-  pub read-width : groundOf (length s) w ≡ Width → width ≡ readBy meaning s p w
+  pub read-width : limitsOf (length s) w ≡ Width → width ≡ readBy meaning s p w
   read-width e = rw (read-on, e)
 
-  pub read-short : groundOf (length s) w ≡ Firm → length s * 8 < p + w → cutAt (length s) p w ≡ readBy meaning s p w
+  pub read-short : limitsOf (length s) w ≡ Kept → length s * 8 < p + w → cutAt (length s) p w ≡ readBy meaning s p w
   unfolding rest
   read-short e h = rw (read-on, e, lt-ltb _ _ h)
 
-  pub read-value : groundOf (length s) w ≡ Firm → p + w ≤ length s * 8 → Accepted (reading (meaning (field s p w)) (p + w)) ≡ readBy meaning s p w
+  pub read-value : limitsOf (length s) w ≡ Kept → p + w ≤ length s * 8 → Accepted (reading (meaning (field s p w)) (p + w)) ≡ readBy meaning s p w
   unfolding rest
   read-value e h = rw (read-on, e, le-ltb _ _ h)
 
@@ -61,10 +61,10 @@ module _ {A : Type 0} (meaning : ℕ → A) (s : List ℕ) (p w : ℕ) where
 
   module _ (few : length s ≤ 1023) (low : 1 ≤ w) (high : w ≤ 64) where
     pub reads-value : p + w ≤ length s * 8 → readBy meaning s p w ≡ Accepted (reading (meaning (field s p w)) (p + w))
-    reads-value h = sym (read-value (is-firm (length s) w few low high) h)
+    reads-value h = sym (read-value (are-kept (length s) w few low high) h)
 
     pub reads-short : length s * 8 < p + w → readBy meaning s p w ≡ cutAt (length s) p w
-    reads-short h = sym (read-short (is-firm (length s) w few low high) h)
+    reads-short h = sym (read-short (are-kept (length s) w few low high) h)
 
     -- a field that is refused there is cut short
     pub refused-short : {n : ℕ} {carried : List ℕ} → readBy meaning s p w ≡ Refused n carried → readBy meaning s p w ≡ cutAt (length s) p w
@@ -92,36 +92,36 @@ module _ {A : Type 0} (meaning : ℕ → A) (s : List ℕ) (p w : ℕ) where
 
   pub read-tells : {r : Reading A} → readBy meaning s p w ≡ Accepted r → Read r
   unfolding rest
-  read-tells {r} e = go (groundOf (length s) w) refl
+  read-tells {r} e = go (limitsOf (length s) w) refl
     where
-      go : (g : Ground) → groundOf (length s) w ≡ g → Read r
+      go : (g : Limits) → limitsOf (length s) w ≡ g → Read r
       go Size q = let d = read-size q in let z : _≡_ {A = ℕ} 0 1 = cc in absurd (omega arith)
       go Width q = let d = read-width q in let z : _≡_ {A = ℕ} 0 1 = cc in absurd (omega arith)
-      go Firm q = by (decLt (length s * 8) (p + w))
+      go Kept q = by (decLt (length s * 8) (p + w))
         where
           by : Dec (length s * 8 < p + w) → Read r
           by (yes h) = let d = read-short q h in let z : _≡_ {A = ℕ} 0 1 = cc in absurd (omega arith)
           by (no h) =
-              let f = firm (length s) w q in
+              let f = kept (length s) w q in
               let d = read-value q (omega arith) in
               record { few = f .0; low = f .1; high = f .2; within = omega arith; is = cc }
 
   -- a field that is refused with Short carries its start, and says that from 1 to its width bits are missing
   pub short-tells : {place lack : ℕ} → readBy meaning s p w ≡ Refused 1 (place ∷ lack ∷ []) → (place ≡ p) × (lack ≡ missing (length s * 8) p w) × (1 ≤ lack) × (lack ≤ w)
   unfolding rest
-  short-tells {place} {lack} e = go (groundOf (length s) w) refl
+  short-tells {place} {lack} e = go (limitsOf (length s) w) refl
     where
-      go : (g : Ground) → groundOf (length s) w ≡ g → (place ≡ p) × (lack ≡ missing (length s * 8) p w) × (1 ≤ lack) × (lack ≤ w)
+      go : (g : Limits) → limitsOf (length s) w ≡ g → (place ≡ p) × (lack ≡ missing (length s * 8) p w) × (1 ≤ lack) × (lack ≤ w)
       go Size q = let d = read-size q in let z : _≡_ {A = ℕ} 9 1 = cc in absurd (omega arith)
       go Width q = let d = read-width q in let z : _≡_ {A = ℕ} 2 1 = cc in absurd (omega arith)
-      go Firm q = by (decLt (length s * 8) (p + w))
+      go Kept q = by (decLt (length s * 8) (p + w))
         where
           by : Dec (length s * 8 < p + w) → (place ≡ p) × (lack ≡ missing (length s * 8) p w) × (1 ≤ lack) × (lack ≤ w)
           by (yes h) =
               let d = read-short q h ∙ e in
               let a : p ≡ place = cc in
               let b : missing (length s * 8) p w ≡ lack = cc in
-              let r = missing-within (length s * 8) p w h (firm (length s) w q .1) in
+              let r = missing-within (length s * 8) p w h (kept (length s) w q .1) in
               (sym a, sym b, omega arith, omega arith)
           by (no h) = let d = read-value q (omega arith) in let z : _≡_ {A = ℕ} 0 1 = cc in absurd (omega arith)
 
@@ -133,15 +133,15 @@ understood meaning (Refused n carried) = Refused n carried
 
 pub read-as : {A : Type 0} (meaning : ℕ → A) (s : List ℕ) (p w : ℕ) → readBy meaning s p w ≡ understood meaning (readUnsigned s p w)
 unfolding rest
-read-as meaning s p w = rw (read-on meaning s p w, read-on (λ v. v) s p w) (go (groundOf (length s) w) (ltb (length s * 8) (p + w)))
+read-as meaning s p w = rw (read-on meaning s p w, read-on (λ v. v) s p w) (go (limitsOf (length s) w) (ltb (length s * 8) (p + w)))
   where
-    go : (g : Ground) (b : Bool)
-        → onGround g size width (cond b (cutAt (length s) p w) (Accepted (reading (meaning (field s p w)) (p + w))))
-        ≡ understood meaning (onGround g size width (cond b (cutAt (length s) p w) (Accepted (reading (field s p w) (p + w)))))
+    go : (g : Limits) (b : Bool)
+        → byLimits g size width (cond b (cutAt (length s) p w) (Accepted (reading (meaning (field s p w)) (p + w))))
+        ≡ understood meaning (byLimits g size width (cond b (cutAt (length s) p w) (Accepted (reading (field s p w) (p + w)))))
     go Size b = refl
     go Width b = refl
-    go Firm true = refl
-    go Firm false = refl
+    go Kept true = refl
+    go Kept false = refl
 
 module _ {A : Type 0} (meaning : ℕ → A) (s : List ℕ) (p w : ℕ) where
   -- from the unsigned number that the code has in hand

@@ -60,7 +60,7 @@ field-bits s t p w e i a b =
 with-bit-lt : (x j b : ℕ) → x < 256 → j < 8 → b < 2 → withBit x j b < 256
 unfolding withBit splice
 with-bit-lt x j b hx hj hb =
-    rw (add-comm j 1) (splice-lt x 1 j b hx (omega arith) hb)
+    rw (add-comm j 1) (splice-lt 8 x 1 j b hx (omega arith) hb)
 
 -- writing keeps bytes bytes
 bytes-set-bit : (s : List ℕ) (i b : ℕ) → i < length s * 8 → b < 2 → Bytes s → Bytes (setBit s i b)

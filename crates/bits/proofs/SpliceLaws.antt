@@ -97,39 +97,35 @@ low-bits v m h =
     ∙ ap (λ (n : ℕ). v / 2 ^ n % 2 ^ m) e
     ∙ ap (λ (n : ℕ). n % 2 ^ m) (div-one v)
 
--- down and up again
-down-up : (x t : ℕ) → x < 256 → x / 2 ^ t * 2 ^ t % 2 ^ 64 ≡ x / 2 ^ t * 2 ^ t
-down-up x t h =
-    let l : x / 2 ^ t * 2 ^ t ≤ x = div-mul-le-self x (2 ^ t) in
-    mod-eq-of-lt (omega arith)
-
-pub splice-lt : (x m j b : ℕ) → x < 256 → m + j ≤ 8 → b < 2 ^ m → splice x m j b < 256
+pub splice-lt : (n x m j b : ℕ) → x < 2 ^ n → m + j ≤ n → b < 2 ^ m → splice x m j b < 2 ^ n
 unfolding splice
-splice-lt x m j b hx h hb =
-    let e : 8 ≡ 8 - (m + j) + (m + j) = omega arith in
-    rw (pow-eq e ∙ pow-add 2 (8 - (m + j)) (m + j))
-    (digits-lt (shr-lt (8 - (m + j)) (m + j) (rw (sym (pow-eq e)) hx)) (rw (pow-add 2 m j) (digits-lt hb (mod-lt x (pow-pos j)))))
-  where
-    pow-eq : {m n : ℕ} → m ≡ n → 2 ^ m ≡ 2 ^ n
-    pow-eq e = ap (λ (k : ℕ). 2 ^ k) e
+splice-lt n x m j b hx h hb =
+    let e : 2 ^ n ≡ 2 ^ (n - (m + j) + (m + j)) = ap (λ (k : ℕ). 2 ^ k) (omega arith) in
+    let hy : x < 2 ^ (n - (m + j) + (m + j)) = omega (arith, e, hx) in
+    let low : b * 2 ^ j + x % 2 ^ j < 2 ^ (m + j) = rw (pow-add 2 m j) (digits-lt hb (mod-lt x (pow-pos j))) in
+    rw (e ∙ pow-add 2 (n - (m + j)) (m + j)) (digits-lt (shr-lt {n = x} (n - (m + j)) (m + j) hy) low)
 
-module _ (x m j v : ℕ) (hx : x < 256) (h : m + j ≤ 8) where
-  p : ℕ
-  p = v * 2 ^ (64 - m) % 2 ^ 64 / 2 ^ (64 - m)
+-- what is above m bits, they themselves, and what is below
+parts : (x m j : ℕ) → x / 2 ^ (m + j) * 2 ^ (m + j) + (x / 2 ^ j % 2 ^ m * 2 ^ j + x % 2 ^ j) ≡ x
+parts x m j = ap (λ (n : ℕ). x / 2 ^ (m + j) * 2 ^ (m + j) + n) (sym (mod-pow-add x m j)) ∙ split x (m + j)
+
+module _ (x m j v : ℕ) (hx : x < 2 ^ 64) (h : m + j ≤ 64) where
+  -- the low m bits of y, put j bits up
+  lifted : (y : ℕ) → y * 2 ^ (64 - m) % 2 ^ 64 / 2 ^ (64 - m) * 2 ^ j % 2 ^ 64 ≡ y % 2 ^ m * 2 ^ j
+  lifted y = ap (λ (n : ℕ). n * 2 ^ j % 2 ^ 64) (low-bits y m (omega arith)) ∙ shl-exact m j 64 (mod-lt y (pow-pos m)) h
 
   pub splice-code :
-      (x / 2 ^ j * 2 ^ j % 2 ^ 64 ≤ x)
-      × (x / 2 ^ (m + j) * 2 ^ (m + j) % 2 ^ 64 + v * 2 ^ (64 - m) % 2 ^ 64 / 2 ^ (64 - m) * 2 ^ j % 2 ^ 64 + (x - x / 2 ^ j * 2 ^ j % 2 ^ 64) ≡ splice x m j (v % 2 ^ m))
+      (x / 2 ^ j * 2 ^ (64 - m) % 2 ^ 64 / 2 ^ (64 - m) * 2 ^ j % 2 ^ 64 ≤ x)
+      × (x - x / 2 ^ j * 2 ^ (64 - m) % 2 ^ 64 / 2 ^ (64 - m) * 2 ^ j % 2 ^ 64 + v * 2 ^ (64 - m) % 2 ^ 64 / 2 ^ (64 - m) * 2 ^ j % 2 ^ 64 ≡ splice x m j (v % 2 ^ m))
   unfolding splice
-  splice-code =
-      let l : x / 2 ^ j * 2 ^ j ≤ x = div-mul-le-self x (2 ^ j) in
-      let e : x / 2 ^ j * 2 ^ j + x % 2 ^ j ≡ x = split x j in
-      let d : x - x / 2 ^ j * 2 ^ j % 2 ^ 64 ≡ x % 2 ^ j = rw (down-up x j hx) (omega arith) in (
-        rw (down-up x j hx) l,
-        ap₂ (λ (a b : ℕ). a + b * 2 ^ j % 2 ^ 64 + (x - x / 2 ^ j * 2 ^ j % 2 ^ 64)) (down-up x (m + j) hx) (low-bits v m (omega arith))
-            ∙ ap₂ (λ (a b : ℕ). x / 2 ^ (m + j) * 2 ^ (m + j) + a + b) (shl-exact m j 64 (mod-lt v (pow-pos m)) (omega arith)) d
-            ∙ add-assoc (x / 2 ^ (m + j) * 2 ^ (m + j)) (v % 2 ^ m * 2 ^ j) (x % 2 ^ j),
-      )
+  splice-code = rw (lifted (x / 2 ^ j), lifted v) (
+      let e = parts x m j in (
+        omega (arith, e),
+        omega (arith, e),
+      ))
+
+  pub splice-word : splice x m j (v % 2 ^ m) < 2 ^ 64
+  splice-word = splice-lt 64 x m j (v % 2 ^ m) hx h (mod-lt v (pow-pos m))
 
 -- one turn of the fast loop
 pub put-chunk : (s₀ s : List ℕ) (p k m v w : ℕ) → s ≡ putField s₀ p k (v / 2 ^ (w - k)) → (p + k) % 8 + m ≤ 8 → k + m ≤ w

@@ -13,57 +13,57 @@ use Rattle.bits.specs.Told.{Told, Accepted, Refused, size, width, range,
 use Rattle.bits.specs.Outcome.{Outcome, outcome, refusing}
 use Rattle.bits.specs.Signed.{twosOf, signmagOf, fitsUnsigned, fitsTwos, fitsSignmag, twosBits, signmagBits}
 use Rattle.bits.specs.Field.{putField, reading, readBy, readUnsigned, readTwos, readSignmag, writeBy}
-use Rattle.bits.specs.Steps.{groundOf, placed}
-use Rattle.bits.specs.declared.field.Ground.{Ground}
-use Rattle.bits.specs.declared.field.Ground.the-variants.{Firm, Size, Width}
-use Rattle.bits.proofs.GroundLaws.{onGround, by-ground, firm, is-firm}
+use Rattle.bits.specs.Steps.{limitsOf, putWhereRoom}
+use Rattle.bits.specs.declared.field.Limits.{Limits}
+use Rattle.bits.specs.declared.field.Limits.the-variants.{Kept, Size, Width}
+use Rattle.bits.proofs.LimitLaws.{byLimits, by-limits, kept, are-kept}
 use Rattle.bits.proofs.BitLaws.{length-put, read-back-fits}
 use Rattle.bits.proofs.SignedLaws.{twos-bits-lt, twos-back, signmag-bits-lt, signmag-back}
 use Rattle.bits.proofs.OutcomeLaws.{Keeps, writing-keeps}
 use Rattle.bits.proofs.ReadLaws.{reads-value}
 
--- ---- by the ground, as the code decides
+-- ---- by the limits, as the code decides
 
-pub placed-room : (s : List ℕ) (p w v : ℕ) → length s * 8 < p + w → outcome (room w) s ≡ placed s p w v
-unfolding placed
-placed-room s p w v h = rw (lt-ltb _ _ h)
+pub no-room : (s : List ℕ) (p w v : ℕ) → length s * 8 < p + w → outcome (room w) s ≡ putWhereRoom s p w v
+unfolding putWhereRoom
+no-room s p w v h = rw (lt-ltb _ _ h)
 
-pub placed-end : (s : List ℕ) (p w v : ℕ) → p + w ≤ length s * 8 → outcome (Accepted (p + w)) (putField s p w v) ≡ placed s p w v
-unfolding placed
-placed-end s p w v h = rw (le-ltb _ _ h)
+pub has-room : (s : List ℕ) (p w v : ℕ) → p + w ≤ length s * 8 → outcome (Accepted (p + w)) (putField s p w v) ≡ putWhereRoom s p w v
+unfolding putWhereRoom
+has-room s p w v h = rw (le-ltb _ _ h)
 
 module _ (fits : Bool) (v : ℕ) (s : List ℕ) (p w : ℕ) where
   -- where the field is put, its end is told
   puts : ℕ → Outcome ℕ (List ℕ)
   puts q = outcome (Accepted q) (putField s p w v)
 
-  -- what is left to decide on firm ground
+  -- what is left to decide within the limits
   rest : Told ℕ
   rest = cond (not fits) (range 0) (cond (ltb (length s * 8) (p + w)) (room w) (Accepted (p + w)))
 
-  write-on : writeBy fits v s p w ≡ refusing s (onGround (groundOf (length s) w) size width rest) puts
+  write-on : writeBy fits v s p w ≡ refusing s (byLimits (limitsOf (length s) w) size width rest) puts
   unfolding writeBy rest puts
-  write-on = ap (λ (t : Told ℕ). refusing s t puts) (by-ground (length s) w size width rest)
+  write-on = ap (λ (t : Told ℕ). refusing s t puts) (by-limits (length s) w size width rest)
 
-  pub write-size : groundOf (length s) w ≡ Size → outcome size s ≡ writeBy fits v s p w
+  pub write-size : limitsOf (length s) w ≡ Size → outcome size s ≡ writeBy fits v s p w
   write-size e = rw (write-on, e)
 
-  pub write-width : groundOf (length s) w ≡ Width → outcome width s ≡ writeBy fits v s p w
+  pub write-width : limitsOf (length s) w ≡ Width → outcome width s ≡ writeBy fits v s p w
   write-width e = rw (write-on, e)
 
-  pub write-range : groundOf (length s) w ≡ Firm → fits ≡ false → outcome (range 0) s ≡ writeBy fits v s p w
+  pub write-range : limitsOf (length s) w ≡ Kept → fits ≡ false → outcome (range 0) s ≡ writeBy fits v s p w
   unfolding rest
   write-range e f = rw (write-on, e, f)
 
-  pub write-placed : groundOf (length s) w ≡ Firm → fits ≡ true → placed s p w v ≡ writeBy fits v s p w
-  unfolding rest puts placed
-  write-placed e f = rw (write-on, e, f)
+  pub write-where-room : limitsOf (length s) w ≡ Kept → fits ≡ true → putWhereRoom s p w v ≡ writeBy fits v s p w
+  unfolding rest puts putWhereRoom
+  write-where-room e f = rw (write-on, e, f)
 
   -- ---- by the sizes, for callers
 
   pub writes : length s ≤ 1023 → 1 ≤ w → w ≤ 64 → fits ≡ true → p + w ≤ length s * 8
       → writeBy fits v s p w ≡ outcome (Accepted (p + w)) (putField s p w v)
-  writes few low high f h = sym (write-placed (is-firm (length s) w few low high) f) ∙ sym (placed-end s p w v h)
+  writes few low high f h = sym (write-where-room (are-kept (length s) w few low high) f) ∙ sym (has-room s p w v h)
 
   -- what an accepted write tells
   pub record Did (q : ℕ) : Type 0 where
@@ -81,15 +81,15 @@ module _ (fits : Bool) (v : ℕ) (s : List ℕ) (p w : ℕ) where
     done : (q : ℕ) → Did q → Ended (outcome (Accepted q) (putField s p w v))
 
   ended : Ended (writeBy fits v s p w)
-  ended = go (groundOf (length s) w) refl fits refl (decLt (length s * 8) (p + w))
+  ended = go (limitsOf (length s) w) refl fits refl (decLt (length s * 8) (p + w))
     where
-      go : (g : Ground) → groundOf (length s) w ≡ g → (f : Bool) → fits ≡ f → Dec (length s * 8 < p + w) → Ended (writeBy fits v s p w)
+      go : (g : Limits) → limitsOf (length s) w ≡ g → (f : Bool) → fits ≡ f → Dec (length s * 8 < p + w) → Ended (writeBy fits v s p w)
       go Size e f q d = subst Ended (write-size e) (refused 9 [])
       go Width e f q d = subst Ended (write-width e) (refused 2 [])
-      go Firm e false q d = subst Ended (write-range e q) (refused 3 (0 ∷ []))
-      go Firm e true q (yes h) = subst Ended (placed-room s p w v h ∙ write-placed e q) (refused 8 (w ∷ []))
-      go Firm e true q (no h) =
-          let f = firm (length s) w e in
+      go Kept e false q d = subst Ended (write-range e q) (refused 3 (0 ∷ []))
+      go Kept e true q (yes h) = subst Ended (no-room s p w v h ∙ write-where-room e q) (refused 8 (w ∷ []))
+      go Kept e true q (no h) =
+          let f = kept (length s) w e in
           let k : p + w ≤ length s * 8 = omega arith in
           let b = writes (f .0) (f .1) (f .2) q k in
           subst Ended (sym b)
@@ -98,7 +98,7 @@ module _ (fits : Bool) (v : ℕ) (s : List ℕ) (p w : ℕ) where
   -- a refused call changes nothing
   pub write-keeps : Keeps s (writeBy fits v s p w)
   unfolding puts
-  write-keeps = subst (Keeps s) (sym write-on) (writing-keeps s (onGround (groundOf (length s) w) size width rest) (λ q. putField s p w v))
+  write-keeps = subst (Keeps s) (sym write-on) (writing-keeps s (byLimits (limitsOf (length s) w) size width rest) (λ q. putField s p w v))
 
   pub write-tells : {q : ℕ} → writeBy fits v s p w .answer ≡ Accepted q → Did q
   write-tells {q} e = go (writeBy fits v s p w) ended e

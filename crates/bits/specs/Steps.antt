@@ -7,16 +7,16 @@ use lib.Dec.{ltb, eqb}
 use Rattle.bits.specs.Told.{Accepted, room}
 use Rattle.bits.specs.Outcome.{Outcome, outcome, refusing}
 use Rattle.bits.specs.Field.{putField}
-use Rattle.bits.specs.declared.field.Ground.{Ground}
-use Rattle.bits.specs.declared.field.Ground.the-variants.{Firm, Size, Width}
+use Rattle.bits.specs.declared.field.Limits.{Limits}
+use Rattle.bits.specs.declared.field.Limits.the-variants.{Kept, Size, Width}
 
 -- the refusals that all fields share, for n bytes of data and the width w
-unfoldable pub groundOf : ℕ → ℕ → Ground
-groundOf n w = cond (ltb 1023 n) Size (cond (eqb w 0) Width (cond (ltb 64 w) Width Firm))
+unfoldable pub limitsOf : ℕ → ℕ → Limits
+limitsOf n w = cond (ltb 1023 n) Size (cond (eqb w 0) Width (cond (ltb 64 w) Width Kept))
 
 -- what is left to decide of a number that fits: whether the data reaches so far
-unfoldable pub placed : List ℕ → ℕ → ℕ → ℕ → Outcome ℕ (List ℕ)
-placed s p w v =
+unfoldable pub putWhereRoom : List ℕ → ℕ → ℕ → ℕ → Outcome ℕ (List ℕ)
+putWhereRoom s p w v =
     refusing s
     (cond (ltb (length s * 8) (p + w)) (room w) (Accepted (p + w)))
     (λ q. outcome (Accepted q) (putField s p w v))

@@ -6,7 +6,7 @@ ghost use Rattle.bits.specs.Told.{short};
 ghost use Rattle.bits.specs.Outcome.{outcome};
 ghost use Rattle.bits.specs.Field.{missing, readUnsigned, readTwos, readSignmag, writeUnsigned, writeTwos, writeSignmag};
 ghost use Rattle.bits.specs.Answers.{toldUnsigned, toldSigned, toldWritten};
-ghost use Rattle.bits.specs.Steps.{groundOf, placed};
+ghost use Rattle.bits.specs.Steps.{limitsOf, putWhereRoom};
 use crate::raw;
 use crate::signed;
 
@@ -42,10 +42,10 @@ pub enum Written {
 pub fn read_unsigned(bytes: &[u8], start: usize, width: usize) -> Unsigned
     ensures { λ r. ⌜ toldUnsigned r ≡ readUnsigned (now (bytes .entry)) start width ⌝ }
 {
-    match ground_of(bytes.len(), width) {
-        Ground::Size => Unsigned::Size,
-        Ground::Width => Unsigned::Width,
-        Ground::Firm => {
+    match limits_of(bytes.len(), width) {
+        Limits::Size => Unsigned::Size,
+        Limits::Width => Unsigned::Width,
+        Limits::Kept => {
             let all = bytes.len() * 8;
             if all < width {
                 return cut(all, start, width);
@@ -86,10 +86,10 @@ pub fn read_signmag(bytes: &[u8], start: usize, width: usize) -> Signed
 pub fn write_unsigned(bytes: &mut [u8], start: usize, width: usize, value: u64) -> Written
     ensures { λ r. ⌜ outcome (toldWritten r) (now (bytes .exit)) ≡ writeUnsigned (now (bytes .entry)) start width value ⌝ }
 {
-    match ground_of(bytes.len(), width) {
-        Ground::Size => Written::Size,
-        Ground::Width => Written::Width,
-        Ground::Firm => {
+    match limits_of(bytes.len(), width) {
+        Limits::Size => Written::Size,
+        Limits::Width => Written::Width,
+        Limits::Kept => {
             if !signed::fits_unsigned(value, width) {
                 return Written::Range;
             }
@@ -102,10 +102,10 @@ pub fn write_unsigned(bytes: &mut [u8], start: usize, width: usize, value: u64) 
 pub fn write_twos(bytes: &mut [u8], start: usize, width: usize, value: i64) -> Written
     ensures { λ r. ⌜ outcome (toldWritten r) (now (bytes .exit)) ≡ writeTwos (now (bytes .entry)) start width value ⌝ }
 {
-    match ground_of(bytes.len(), width) {
-        Ground::Size => Written::Size,
-        Ground::Width => Written::Width,
-        Ground::Firm => {
+    match limits_of(bytes.len(), width) {
+        Limits::Size => Written::Size,
+        Limits::Width => Written::Width,
+        Limits::Kept => {
             if !signed::fits_twos(value, width) {
                 return Written::Range;
             }
@@ -118,10 +118,10 @@ pub fn write_twos(bytes: &mut [u8], start: usize, width: usize, value: i64) -> W
 pub fn write_signmag(bytes: &mut [u8], start: usize, width: usize, value: i64) -> Written
     ensures { λ r. ⌜ outcome (toldWritten r) (now (bytes .exit)) ≡ writeSignmag (now (bytes .entry)) start width value ⌝ }
 {
-    match ground_of(bytes.len(), width) {
-        Ground::Size => Written::Size,
-        Ground::Width => Written::Width,
-        Ground::Firm => {
+    match limits_of(bytes.len(), width) {
+        Limits::Size => Written::Size,
+        Limits::Width => Written::Width,
+        Limits::Kept => {
             if !signed::fits_signmag(value, width) {
                 return Written::Range;
             }
@@ -131,26 +131,26 @@ pub fn write_signmag(bytes: &mut [u8], start: usize, width: usize, value: i64) -
 }
 
 // What is decided before the number and the place are looked at.
-enum Ground {
-    Firm,
+enum Limits {
+    Kept,
     Size,
     Width,
 }
 
 // Size for more than 1,023 bytes of data, Width for a width of 0 or above 64.
-fn ground_of(n: usize, width: usize) -> Ground
-    ensures { λ r. ⌜ r ≡ groundOf n width ⌝ }
+fn limits_of(n: usize, width: usize) -> Limits
+    ensures { λ r. ⌜ r ≡ limitsOf n width ⌝ }
 {
     if 1023 < n {
-        return Ground::Size;
+        return Limits::Size;
     }
     if width == 0 {
-        return Ground::Width;
+        return Limits::Width;
     }
     if 64 < width {
-        return Ground::Width;
+        return Limits::Width;
     }
-    Ground::Firm
+    Limits::Kept
 }
 
 // The refusal of a field that ends behind the `all` bits of the data: it lacks what lies behind them, which is all of it
@@ -168,7 +168,7 @@ fn cut(all: usize, start: usize, width: usize) -> Unsigned
 // Writes a number that fits its width, where the data reaches so far.
 fn place(bytes: &mut [u8], start: usize, width: usize, number: u64) -> Written
     requires { ⌜ (1 ≤ width) × (width ≤ 64) × (length (now bytes) ≤ 1023) ⌝ }
-    ensures { λ r. ⌜ outcome (toldWritten r) (now (bytes .exit)) ≡ placed (now (bytes .entry)) start width number ⌝ }
+    ensures { λ r. ⌜ outcome (toldWritten r) (now (bytes .exit)) ≡ putWhereRoom (now (bytes .entry)) start width number ⌝ }
 {
     let all = bytes.len() * 8;
     if all < width {

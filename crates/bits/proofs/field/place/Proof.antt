@@ -4,7 +4,7 @@ use native.Mathlib.Omega.{arith}
 use borrow.Author.Needs.{needs}
 use Rattle.bits.specs.Told.{Accepted}
 use Rattle.bits.specs.Outcome.{outcome}
-use Rattle.bits.proofs.WriteLaws.{placed-room, placed-end}
+use Rattle.bits.proofs.WriteLaws.{no-room, has-room}
 use Rattle.bits.proofs.field.place.Statement.{statement}
 use Rattle.bits.proofs.field.place.Tie as tie
 
@@ -12,10 +12,10 @@ mul-all : tie.Need-mul-all
 mul-all c = search needs
 
 returns : tie.Need-returns
-returns c = placed-room _ _ _ _ (omega arith)
+returns c = no-room _ _ _ _ (omega arith)
 
 returns-2 : tie.Need-returns-2
-returns-2 c = placed-room _ _ _ _ (omega arith)
+returns-2 c = no-room _ _ _ _ (omega arith)
 
 put-field-requires : tie.Need-put-field-requires
 put-field-requires c κs = search needs
@@ -27,7 +27,7 @@ same-length : tie.Need-same-length
 same-length c = search needs
 
 returns-3 : tie.Need-returns-3
-returns-3 c = ap (outcome (Accepted _)) (c .before .before .put-field .ensures) ∙ placed-end _ _ _ _ (omega arith)
+returns-3 c = ap (outcome (Accepted _)) (c .before .before .put-field .ensures) ∙ has-room _ _ _ _ (omega arith)
 
 pub place-spec : {M : Type 1} → statement M
 place-spec =

@@ -1,15 +1,15 @@
--- Each answer is the one that the ground, the range and the place ask for. Assumes nothing.
+-- Each answer is the one that the limits, the range and the place ask for. Assumes nothing.
 use mathlib.Core.Path.{sym, _∙_}
 use native.Mathlib.Omega.{arith}
 use borrow.Author.Needs.{needs}
 use borrow.Author.Tests.{not-true, not-false}
-use Rattle.bits.proofs.GroundLaws.{firm}
-use Rattle.bits.proofs.WriteLaws.{write-size, write-width, write-range, write-placed}
+use Rattle.bits.proofs.LimitLaws.{kept}
+use Rattle.bits.proofs.WriteLaws.{write-size, write-width, write-range, write-where-room}
 use Rattle.bits.proofs.field.write_unsigned.Statement.{statement}
 use Rattle.bits.proofs.field.write_unsigned.Tie as tie
 
-ground-of-requires : tie.Need-ground-of-requires
-ground-of-requires c κs = search needs
+limits-of-requires : tie.Need-limits-of-requires
+limits-of-requires c κs = search needs
 
 enum-told : tie.Need-enum-told
 enum-told c = search needs
@@ -21,23 +21,23 @@ enum-told-3 : tie.Need-enum-told-3
 enum-told-3 c = search needs
 
 fits-unsigned-requires : tie.Need-fits-unsigned-requires
-fits-unsigned-requires c κs = omega (arith, firm _ _ (sym (c .before .before .ground-of .ensures) ∙ c .enum-told3 .given .1))
+fits-unsigned-requires c κs = omega (arith, kept _ _ (sym (c .before .before .limits-of .ensures) ∙ c .enum-told3 .given .1))
 
 returns : tie.Need-returns
 returns c =
-    write-range _ _ _ _ _ (sym (c .before .before .before .before .ground-of .ensures) ∙ c .before .before .enum-told3 .given .1)
+    write-range _ _ _ _ _ (sym (c .before .before .before .before .limits-of .ensures) ∙ c .before .before .enum-told3 .given .1)
     (sym (c .before .fits-unsigned .ensures) ∙ not-true _ (c .if1 .taken))
 
 place-requires : tie.Need-place-requires
 place-requires c κs =
-    let f = firm _ _ (sym (c .before .before .before .before .before .ground-of .ensures) ∙ c .before .before .before .enum-told3 .given .1) in
+    let f = kept _ _ (sym (c .before .before .before .before .before .limits-of .ensures) ∙ c .before .before .before .enum-told3 .given .1) in
     (f .1, f .2, f .0)
 
 returns-2 : tie.Need-returns-2
-returns-2 c = write-size _ _ _ _ _ (sym (c .before .before .ground-of .ensures) ∙ c .enum-told .given .1)
+returns-2 c = write-size _ _ _ _ _ (sym (c .before .before .limits-of .ensures) ∙ c .enum-told .given .1)
 
 returns-3 : tie.Need-returns-3
-returns-3 c = write-width _ _ _ _ _ (sym (c .before .before .ground-of .ensures) ∙ c .enum-told2 .given .1)
+returns-3 c = write-width _ _ _ _ _ (sym (c .before .before .limits-of .ensures) ∙ c .enum-told2 .given .1)
 
 same-length : tie.Need-same-length
 same-length c = search needs
@@ -45,14 +45,14 @@ same-length c = search needs
 returns-4 : tie.Need-returns-4
 returns-4 c =
     c .before .before .place .ensures
-    ∙ write-placed _ _ _ _ _ (sym (c .before .before .before .before .before .before .before .before .ground-of .ensures) ∙ c .before .before .before .before .before .before .enum-told3 .given .1)
+    ∙ write-where-room _ _ _ _ _ (sym (c .before .before .before .before .before .before .before .before .limits-of .ensures) ∙ c .before .before .before .before .before .before .enum-told3 .given .1)
     (sym (c .before .before .before .before .before .fits-unsigned .ensures) ∙ not-false _ (c .before .before .before .before .if1 .left))
 
 pub write-unsigned-spec : {M : Type 1} → statement M
 write-unsigned-spec =
     tie.close
     (tie.spec
-    ground-of-requires
+    limits-of-requires
     enum-told
     enum-told-2
     enum-told-3

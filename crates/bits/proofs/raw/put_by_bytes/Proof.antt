@@ -1,0 +1,130 @@
+-- The loop has written the first k bits; each turn writes what one byte has of the field. Assumes nothing.
+use lib.ListN.{length-set}
+use mathlib.Core.Path.{_≡_, refl, ap, ap₂, _∙_}
+use Prim.Native.Nat.{ℕ, _+_, _/_, _%_, _^_, _≤_, _<_, _-_}
+use native.Mathlib.Nat.{mod-eq-of-lt, mod-lt, div-one}
+use native.Mathlib.Omega.{arith}
+use lib.ListN.{length, set, getD}
+use lib.Pow.{pow-pos}
+use borrow.Author.Needs.{needs}
+use Rattle.bits.specs.Field.{putField}
+use Rattle.bits.specs.Steps.{splice}
+use Rattle.bits.proofs.SpliceLaws.{splice-lt, put-chunk}
+use Rattle.bits.proofs.raw.put_by_bytes.Statement.{statement}
+use Rattle.bits.proofs.raw.put_by_bytes.Tie as tie
+
+abbrev Inv-loop : tie.InvT-loop
+Inv-loop s₀ start width v k₀ s k = (k ≤ width) × (s ≡ putField s₀ start k (v / 2 ^ (width - k))) × (length s ≡ length s₀)
+
+abbrev μ-loop : tie.MeasureT-loop
+μ-loop s₀ start width v k₀ s k = width - k
+
+loop-holds : tie.Need-loop-holds Inv-loop μ-loop
+unfolding putField
+loop-holds c = (search needs, refl, refl)
+
+add-at : tie.Need-add-at Inv-loop μ-loop
+add-at c = search needs
+
+sub-least : tie.Need-sub-least Inv-loop μ-loop
+sub-least c = search needs
+
+sub-least-2 : tie.Need-sub-least-2 Inv-loop μ-loop
+sub-least-2 c = search needs
+
+least-requires : tie.Need-least-requires Inv-loop μ-loop
+least-requires c κs = search needs
+
+slice-read-wide : tie.Need-slice-read-wide Inv-loop μ-loop
+slice-read-wide c = search needs
+
+wide-requires : tie.Need-wide-requires Inv-loop μ-loop
+wide-requires c κs = search needs
+
+sub-spliced : tie.Need-sub-spliced Inv-loop μ-loop
+sub-spliced c = search needs
+
+sub-spliced-2 : tie.Need-sub-spliced-2 Inv-loop μ-loop
+sub-spliced-2 c = search needs
+
+sub-spliced-3 : tie.Need-sub-spliced-3 Inv-loop μ-loop
+sub-spliced-3 c = search needs
+
+sub-spliced-4 : tie.Need-sub-spliced-4 Inv-loop μ-loop
+sub-spliced-4 c = search needs
+
+shr-spliced : tie.Need-shr-spliced Inv-loop μ-loop
+shr-spliced c = search needs
+
+spliced-requires : tie.Need-spliced-requires Inv-loop μ-loop
+spliced-requires c κs =
+    let l = c .before .before .before .before .loop in
+    let a = c .before .before .before .before .before .before .args in
+    omega arith
+
+cast-bytes : tie.Need-cast-bytes Inv-loop μ-loop
+cast-bytes c = search needs
+
+slice-write-bytes : tie.Need-slice-write-bytes Inv-loop μ-loop
+slice-write-bytes c = search needs
+
+add-k : tie.Need-add-k Inv-loop μ-loop
+add-k c = search needs
+
+loop-less : tie.Need-loop-less Inv-loop μ-loop
+loop-less c = search needs
+
+loop-again : tie.Need-loop-again Inv-loop μ-loop
+loop-again c =
+    let l = c .before .before .before .before .before .loop in
+    let a = c .before .before .before .before .before .before .before .args in
+    let m = c .before .before .before .least .result in
+    let i = (a .start + l .k) / 8 in
+    let j = 8 - (a .start + l .k) % 8 - m in
+    let v = a .number / 2 ^ (a .width - l .k - m) % 2 ^ m in
+    let x = c .before .wide .result in
+    let small : splice x m j v < 256 = splice-lt 8 x m j v (c .before .wide .ensures .1) (omega arith) (mod-lt (a .number / 2 ^ (a .width - l .k - m)) (pow-pos m)) in
+    let y : c .spliced .result % 256 ≡ splice (getD (l .bytes) i 0) m j v =
+    ap (λ (n : ℕ). n % 256) (c .spliced .ensures) ∙ mod-eq-of-lt small ∙ ap (λ (n : ℕ). splice n m j v) (c .before .wide .ensures .0) in (
+      omega arith,
+      ap (set (l .bytes) i) y ∙ put-chunk (a .bytes .now) (l .bytes) (a .start) (l .k) m (a .number) (a .width) (l .inv .1) (omega arith) (omega arith) (omega arith),
+      length-set (l .bytes) i (c .spliced .result % 256) ∙ l .inv .2,
+    )
+
+same-length : tie.Need-same-length Inv-loop μ-loop
+same-length c = c .before .loop .inv .2
+
+returns : tie.Need-returns Inv-loop μ-loop
+returns c =
+    let l = c .before .loop in
+    let a = c .before .before .before .args in
+    let e : l .k ≡ a .width = omega arith in
+    let d : a .width - l .k ≡ 0 = omega arith in
+    l .inv .1 ∙ ap₂ (λ (k n : ℕ). putField (a .bytes .now) (a .start) k (a .number / 2 ^ n)) e d ∙ ap (putField (a .bytes .now) (a .start) (a .width)) (div-one (a .number))
+
+pub put-by-bytes-spec : {M : Type 1} → statement M
+put-by-bytes-spec =
+    tie.close
+    (tie.spec
+    Inv-loop
+    μ-loop
+    loop-holds
+    add-at
+    sub-least
+    sub-least-2
+    least-requires
+    slice-read-wide
+    wide-requires
+    sub-spliced
+    sub-spliced-2
+    sub-spliced-3
+    sub-spliced-4
+    shr-spliced
+    spliced-requires
+    cast-bytes
+    slice-write-bytes
+    add-k
+    loop-less
+    loop-again
+    same-length
+    returns)
