@@ -1,9 +1,10 @@
-// Runs outside vectors through crate `bits` and writes what comes out, to be compared with what should.
+// Runs outside vectors through crates `bits` and `frames` and writes what comes out, to be compared with what should.
 use bits::crc;
 use bits::field;
 use bits::field::Signed;
 use bits::field::Unsigned;
 use bits::field::Written;
+use frames::frame;
 
 fn main() {
     checksums();
@@ -49,16 +50,18 @@ fn standard_examples() {
 fn text_message(bytes: &[u8]) {
     checksum(b"1029, checksum computed: ", part(bytes, 0, 42));
     unsigned(b"1029, checksum sent (EDA33B): ", bytes, 336, 24);
-    unsigned(b"1029, message number: ", bytes, 24, 12);
-    unsigned(b"1029, station: ", bytes, 36, 12);
-    text_fields(bytes);
+    length(b"1029, bytes of the frame: ", frame::frame_part(bytes));
+    text_fields(frame::data_part(bytes));
 }
 
-fn text_fields(bytes: &[u8]) {
-    unsigned(b"1029, modified Julian day: ", bytes, 48, 16);
-    unsigned(b"1029, seconds of day: ", bytes, 64, 17);
-    unsigned(b"1029, characters: ", bytes, 81, 7);
-    unsigned(b"1029, code units: ", bytes, 88, 8);
+fn text_fields(data: &[u8]) {
+    length(b"1029, bytes of data: ", data);
+    unsigned(b"1029, message number: ", data, 0, 12);
+    unsigned(b"1029, station: ", data, 12, 12);
+    unsigned(b"1029, modified Julian day: ", data, 24, 16);
+    unsigned(b"1029, seconds of day: ", data, 40, 17);
+    unsigned(b"1029, characters: ", data, 57, 7);
+    unsigned(b"1029, code units: ", data, 64, 8);
 }
 
 fn station(bytes: &[u8]) {
@@ -74,6 +77,13 @@ fn position(bytes: &[u8]) {
     twos(b"1005, X in 0.1 mm: ", bytes, 426, 38);
     twos(b"1005, Y in 0.1 mm: ", bytes, 466, 38);
     twos(b"1005, Z in 0.1 mm: ", bytes, 506, 38);
+}
+
+// How many bytes a part has.
+fn length(label: &[u8], part: &[u8]) {
+    text(label);
+    io::print_decimal(1, part.len() as u64);
+    text(b"\n");
 }
 
 // The bytes from one place to another, where they are there.
