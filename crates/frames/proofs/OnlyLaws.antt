@@ -9,13 +9,15 @@ use Rattle.frames.specs.Frame.{numberOf, check, framePart, dataPart, ins
 use Rattle.frames.specs.Rtcm.{rtcm}
 use Rattle.frames.specs.Modes.{framingOf}
 use Rattle.frames.specs.Walk.{nextFrom}
-use Rattle.frames.specs.Answers.{toldNumber, toldChecked, toldFramed, toldNext}
+use Rattle.frames.specs.Call.{Scanner, fresh, afresh}
+use Rattle.frames.specs.Answers.{toldNumber, toldChecked, toldFramed, toldNext, known}
 use Rattle.frames.specs.declared.frame.Number.{Number}
 use Rattle.frames.specs.declared.frame.Number.the-variants as N
 use Rattle.frames.specs.declared.frame.Checked.{Checked}
 use Rattle.frames.specs.declared.frame.Framed.{Framed}
 use Rattle.frames.specs.declared.scan.Next.{Next}
-use Rattle.frames.proofs.ToldLaws.{checked-one-to-one, next-one-to-one, only-framed}
+use Rattle.frames.specs.declared.scanner.Scanner as code
+use Rattle.frames.proofs.ToldLaws.{checked-one-to-one, next-one-to-one, only-framed, only-known}
 
 pub only-check : (s : List ℕ) {x y : Checked} → toldChecked x ≡ check s → toldChecked y ≡ check s → x ≡ y
 only-check s e f = checked-one-to-one .same (e ∙ sym f)
@@ -54,3 +56,9 @@ only-next-frame s from e f = next-one-to-one .same (e ∙ sym f)
 
 pub only-next-across : (h p : List ℕ) (from mode : ℕ) {x y : Next} → toldNext x ≡ nextFrom (framingOf mode) (h ++ p) from → toldNext y ≡ nextFrom (framingOf mode) (h ++ p) from → x ≡ y
 only-next-across h p from mode e f = next-one-to-one .same (e ∙ sym f)
+
+pub only-fresh : (mode : ℕ) {x y : code.Scanner} → known x ≡ fresh mode → known y ≡ fresh mode → x ≡ y
+only-fresh mode = only-known (fresh mode)
+
+pub only-reset : (s : Scanner) {x y : code.Scanner} → known x ≡ afresh s → known y ≡ afresh s → x ≡ y
+only-reset s = only-known (afresh s)
