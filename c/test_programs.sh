@@ -213,6 +213,19 @@ warnings() {
     check "no such message" "$("$bin/rtcm_biases" "$data/rtcm3.bin" | grep -c '^  no message 1059 or 1230 in 2 frames$')" 1
 }
 
+# UBX frames beside RTCM, and why bytes were skipped.
+kinds() {
+    "$bin/rtcm_scan" --ubx "$data/ublox-f9p-rtcm.bin" >"$work/out" 2>"$work/err"
+    check "rtcm_scan --ubx: nothing is said" "$(cat "$work/err")" ""
+    check "rtcm_scan --ubx: RTCM" "$(grep -c '  RTCM  ' "$work/out")" 15
+    check "rtcm_scan --ubx: UBX" "$(grep -c '   UBX    [0-9a-f][0-9a-f] [0-9a-f][0-9a-f]$' "$work/out")" 14
+    check "rtcm_scan --ubx: the sum" "$(grep -c 'every byte is accounted for$' "$work/out")" 1
+    skipped=$(sed -n 's/^  skipped  *//p' "$work/out")
+    reasons=$(sed -n 's/^    [nb].*[^0-9]\([0-9][0-9]*\)$/\1/p' "$work/out" | paste -s -d + -)
+    check "rtcm_scan --ubx: the reasons make what is skipped" "$(($reasons))" "$skipped"
+    check "rtcm_scan: RTCM alone" "$("$bin/rtcm_scan" "$data/ublox-f9p-rtcm.bin" | grep -c '   UBX  ')" 0
+}
+
 # How many bytes the list has in a line of its closing counts.
 counted() { sed -n "s/^ *$1  *\([0-9]*\).*/\1/p" "$work/err" | head -n 1; }
 
@@ -313,6 +326,7 @@ two_words rtcm_compare "$sent" "$received"
 refusals
 no_output rtcm_compare "$work/zeros" "$work/others"
 warnings
+kinds
 no_output rtcm_salvage "$data/rtcm3-3.bin"
 choked_output rtcm_salvage "$data/rtcm3-3.bin"
 salvage_options "$data/rtcm3-3.bin"

@@ -1,16 +1,24 @@
-// Shows the frames of recordings: a row for each, and an account of every byte.
-ghost use Rattle.reading.specs.Account.{Right};
+// Shows the frames of recordings: a row for each, and an account of every byte, with why bytes were skipped.
+ghost use mathlib.Core.Path.{_≡_};
+ghost use Rattle.reading.specs.Account.{Right, AllTaken};
 
 mod options;
 mod table;
 
+use options::Ways;
 use reading::Account;
 use reading::Step;
+use reading::Taken;
 use reading::arguments;
 use reading::arguments::Kind;
+use reading::skips;
+use reading::skips::Skips;
+use std::num;
 
 // What a recording, or all of them, came to.
 enum End {
+    // It goes on.
+    On,
     Well,
     // It could not be read to its end.
     Failed,
@@ -18,9 +26,10 @@ enum End {
     Stopped,
 }
 
-// The account of a recording, and what it came to.
+// The account of a recording, what was skipped, and what it came to.
 struct Scanned {
     account: Account,
+    skips: Skips,
     end: End,
 }
 
@@ -44,27 +53,31 @@ fn main() {
         arguments::failed(b"rtcm_scan");
         return;
     }
-    if !scan_all(asked.quiet, asked.rest) {
+    let ways = Ways {
+        quiet: asked.quiet,
+        mode: asked.mode,
+    };
+    if !scan_all(ways, asked.rest) {
         arguments::failed(b"rtcm_scan");
     }
 }
 
 // Scans what the arguments name, one after another, and answers whether all went well.
-fn scan_all(quiet: bool, rest: usize) -> bool {
+fn scan_all(ways: Ways, rest: usize) -> bool {
     let mut out = io::large_buffer();
     let mut at: usize = 0;
     let mut is_well = true;
     let count = os::arg_count();
     let mut i: usize = 1;
     while i < count {
-        match scan_argument(i, quiet, rest, &mut out, &mut at) {
-            End::Well => {}
+        match scan_argument(i, ways, rest, &mut out, &mut at) {
             End::Failed => {
                 is_well = false;
             }
             End::Stopped => {
                 return false;
             }
+            _ => {}
         }
         i += 1;
     }
@@ -72,7 +85,7 @@ fn scan_all(quiet: bool, rest: usize) -> bool {
 }
 
 // Scans what argument i names.
-fn scan_argument(i: usize, quiet: bool, rest: usize, out: &mut [u8; 65536], at: &mut usize) -> End {
+fn scan_argument(i: usize, ways: Ways, rest: usize, out: &mut [u8; 65536], at: &mut usize) -> End {
     let mut word = io::buffer();
     let n = os::arg(i, &mut word);
     if os::errno() != 0 {
@@ -80,38 +93,45 @@ fn scan_argument(i: usize, quiet: bool, rest: usize, out: &mut [u8; 65536], at: 
         return End::Failed;
     }
     match options::kind_of(&word[..n], i, rest) {
-        Kind::File => scan_path(&word[..n], quiet, out, at),
-        Kind::Input => scan_open(0, b"standard input", quiet, out, at),
+        Kind::File => scan_path(&word[..n], ways, out, at),
+        Kind::Input => scan_open(0, b"standard input", ways, out, at),
         _ => End::Well,
     }
 }
 
-fn scan_path(path: &[u8], quiet: bool, out: &mut [u8; 65536], at: &mut usize) -> End {
+fn scan_path(path: &[u8], ways: Ways, out: &mut [u8; 65536], at: &mut usize) -> End {
     let fd = arguments::open(path);
     if fd < 0 {
         return End::Failed;
     }
-    let end = scan_open(fd, path, quiet, out, at);
+    let end = scan_open(fd, path, ways, out, at);
     libc::close(fd);
     end
 }
 
 // Scans an open recording, and writes its rows and its closing table.
-fn scan_open(fd: i32, name: &[u8], quiet: bool, out: &mut [u8; 65536], at: &mut usize) -> End {
+fn scan_open(fd: i32, name: &[u8], ways: Ways, out: &mut [u8; 65536], at: &mut usize) -> End {
     let mut numbers = [0u64; 4097];
-    let scanned = scan(fd, name, quiet, &mut numbers, out, at);
+    let scanned = scan(fd, name, ways, &mut numbers, out, at);
     let account = scanned.account;
     let end = scanned.end;
     if is_stopped(end) {
         return End::Stopped;
     }
     if account.bytes != 0 {
-        table::closing(out, at, account, &numbers);
+        table::closing(out, at, account, scanned.skips, &numbers);
     }
     if !printing::flush(out, at) {
         return End::Stopped;
     }
     end
+}
+
+fn is_on(end: End) -> bool {
+    match end {
+        End::On => true,
+        _ => false,
+    }
 }
 
 fn is_stopped(end: End) -> bool {
@@ -126,7 +146,7 @@ fn is_stopped(end: End) -> bool {
 fn scan(
     fd: i32,
     name: &[u8],
-    quiet: bool,
+    ways: Ways,
     numbers: &mut [u64; 4097],
     out: &mut [u8; 65536],
     at: &mut usize,
@@ -136,49 +156,99 @@ fn scan(
     let mut held = [0u8; 1029];
     let mut piece = io::large_buffer();
     let mut frame = [0u8; 1029];
-    let mut account = reading::start();
+    let mut account = reading::start_in(ways.mode);
+    let mut skips = skips::none();
     let mut turns = u64::MAX;
     while turns > 0 {
         turns -= 1;
-        match reading::next(fd, &mut held, &mut piece, &mut frame, account) {
-            Step::Frame {
+        let before = held;
+        match reading::take(&mut held, &piece, &mut frame, account) {
+            Taken::Frame {
                 place,
                 length,
+                kind: _,
                 account: a,
             } => {
-                table::frame(out, at, quiet, place, length, &frame, numbers);
+                skips = skipped(skips, account, a, &before, &piece);
                 account = a;
-                if !shown(quiet, out, at) {
-                    return Scanned {
-                        account,
-                        end: End::Stopped,
-                    };
+                table::frame(out, at, ways, place, length, &frame, numbers);
+                if !shown(ways.quiet, out, at) {
+                    return over(account, skips, End::Stopped);
                 }
             }
-            Step::Piece(a) => {
-                table::opening(out, at, name, quiet, account);
-                account = a;
+            Taken::All(a) => {
+                skips = skipped(skips, account, a, &before, &piece);
+                let now = refilled(fd, name, ways, &mut piece, a, skips, out, at);
+                account = now.account;
+                let end = now.end;
+                if !is_on(end) {
+                    return now;
+                }
             }
-            Step::End(a) => {
-                arguments::empty(name, a);
-                return Scanned {
-                    account: a,
-                    end: End::Well,
-                };
-            }
-            Step::Failed(a) => {
-                os::fail(name);
-                return Scanned {
-                    account: a,
-                    end: End::Failed,
-                };
+            Taken::Failed(a) => {
+                return over(a, skips, End::Failed);
             }
         }
     }
+    over(account, skips, End::Well)
+}
+
+// Reads the next piece, behind which the recording goes on, or comes to its end.
+fn refilled(
+    fd: i32,
+    name: &[u8],
+    ways: Ways,
+    piece: &mut [u8; 65536],
+    account: Account,
+    skips: Skips,
+    out: &mut [u8; 65536],
+    at: &mut usize,
+) -> Scanned
+    ensures { λ r. ⌜ (AllTaken account → Right (r .account)) ⌝ }
+{
+    match reading::refill(fd, piece, account) {
+        Step::Piece(b) => {
+            table::opening(out, at, name, ways, account);
+            over(b, skips, End::On)
+        }
+        Step::Failed(b) => {
+            os::fail(name);
+            over(b, skips, End::Failed)
+        }
+        _ => {
+            arguments::empty(name, account);
+            over(account, skips, End::Well)
+        }
+    }
+}
+
+fn over(account: Account, skips: Skips, end: End) -> Scanned
+    ensures { λ r. ⌜ r .account ≡ account ⌝ }
+{
     Scanned {
         account,
-        end: End::Well,
+        skips,
+        end,
     }
+}
+
+// Counts what a call skipped: the first bytes of those held before it and of the piece.
+fn skipped(
+    counted: Skips,
+    from: Account,
+    to: Account,
+    before: &[u8; 1029],
+    piece: &[u8; 65536],
+) -> Skips {
+    let n = num::wrapping_sub_u64(to.skipped, from.skipped);
+    let mut skips = counted;
+    let mut i: u64 = 0;
+    while i < n {
+        let byte = skips::byte_at(before, from.held, piece, from.from, i as usize);
+        skips = skips::count(skips, byte);
+        i += 1;
+    }
+    skips
 }
 
 // Writes the row that waits, if there are rows.

@@ -1,4 +1,5 @@
 // What the arguments ask for, and what is said to the user.
+use check::same;
 use libc::STDOUT_FILENO;
 use reading::arguments;
 use reading::arguments::Kind;
@@ -9,15 +10,23 @@ pub struct Asked {
     pub help: bool,
     pub version: bool,
     pub quiet: bool,
+    pub mode: u32,
     pub unknown: usize,
     pub rest: usize,
     pub file: usize,
+}
+
+// How a recording is shown, and the mode of its scanner.
+pub struct Ways {
+    pub quiet: bool,
+    pub mode: u32,
 }
 
 pub fn all() -> Asked {
     let mut help = false;
     let mut version = false;
     let mut quiet = false;
+    let mut mode: u32 = 0;
     let mut unknown: usize = 0;
     let mut rest: usize = 0;
     let mut file: usize = 0;
@@ -32,7 +41,8 @@ pub fn all() -> Asked {
                 version = true;
             }
             Kind::Own => {
-                quiet = true;
+                mode = mode_by(i, mode);
+                quiet = quiet_by(i, quiet);
             }
             Kind::Rest => {
                 rest = i;
@@ -50,6 +60,7 @@ pub fn all() -> Asked {
         help,
         version,
         quiet,
+        mode,
         unknown,
         rest,
         file,
@@ -68,12 +79,31 @@ fn kind_at(i: usize, rest: usize) -> Kind {
     kind_of(&word[..n], i, rest)
 }
 
-// What the word of argument i is. The program's own option is --quiet.
+// The mode, once the own option at place i is heeded; and whether there are no rows.
+fn mode_by(i: usize, mode: u32) -> u32 {
+    if is_ubx(i) { 1 } else { mode }
+}
+
+fn quiet_by(i: usize, quiet: bool) -> bool {
+    if is_ubx(i) { quiet } else { true }
+}
+
+// Whether argument i is the option --ubx.
+fn is_ubx(i: usize) -> bool {
+    let mut word = io::buffer();
+    let n = os::arg(i, &mut word);
+    same(&word[..n], b"--ubx")
+}
+
+// What the word of argument i is. The program's own options are --quiet and --ubx.
 pub fn kind_of(word: &[u8], i: usize, rest: usize) -> Kind {
     if rest != 0 {
         if rest < i {
             return arguments::operand_of(word);
         }
+    }
+    if same(word, b"--ubx") {
+        return Kind::Own;
     }
     arguments::kind_of(word, b"--quiet")
 }
@@ -81,14 +111,17 @@ pub fn kind_of(word: &[u8], i: usize, rest: usize) -> Kind {
 pub fn help() {
     io::write_all(
         STDOUT_FILENO,
-        b"rtcm_scan [--quiet] [--] FILE..
+        b"rtcm_scan [--quiet] [--ubx] [--] FILE..
 
 Shows the RTCM 3 frames of each file (- is standard input): a row for each, with its place,
-its length and its message number (- if it has none), and a closing table, which accounts
-for every byte: in frames, skipped, or held because a frame may begin there. A row is shown
-when its frame has arrived.
+its length, its kind and its message number (- if it has none), and a closing table, which
+accounts for every byte: in frames, skipped, or held because a frame may begin there. Skipped
+bytes are counted by reason: not D3, or a D3 whose checksum is wrong. A row is shown when its
+frame has arrived.
 
   --quiet      the closing tables alone
+  --ubx        UBX frames too; their message is class and id in hexadecimal, and a B5 that
+               starts no good frame is a reason of its own
   --           each word behind it names a file
   --version    the version
   -h, --help   this text

@@ -6,10 +6,10 @@ use Rattle.rtcm_scan.proofs.scan_all.Statement.{statement}
 use Rattle.rtcm_scan.proofs.scan_all.Tie as tie
 
 abbrev Inv-loop : tie.InvT-loop
-Inv-loop quiet rest out₀ at₀ is-well₀ count i₀ out at is-well i = Unit {0}
+Inv-loop ways rest out₀ at₀ is-well₀ count i₀ out at is-well i = Unit {0}
 
 abbrev μ-loop : tie.MeasureT-loop
-μ-loop quiet rest out₀ at₀ is-well₀ count i₀ out at is-well i = count - i
+μ-loop ways rest out₀ at₀ is-well₀ count i₀ out at is-well i = count - i
 
 large-buffer-requires : tie.Need-large-buffer-requires Inv-loop μ-loop
 large-buffer-requires c κs = tt
@@ -28,9 +28,6 @@ enum-told c = search needs
 
 enum-told-2 : tie.Need-enum-told-2 Inv-loop μ-loop
 enum-told-2 c = search needs
-
-enum-told-3 : tie.Need-enum-told-3 Inv-loop μ-loop
-enum-told-3 c = search needs
 
 returns : tie.Need-returns Inv-loop μ-loop
 returns c = tt
@@ -59,7 +56,6 @@ scan-all-spec =
     scan-argument-requires
     enum-told
     enum-told-2
-    enum-told-3
     returns
     add-i
     loop-less

@@ -6,10 +6,12 @@ use Rattle.rtcm_scan.proofs.options.all.Statement.{statement}
 use Rattle.rtcm_scan.proofs.options.all.Tie as tie
 
 abbrev Inv-loop : tie.InvT-loop
-Inv-loop help₀ version₀ quiet₀ unknown₀ rest₀ file₀ count i₀ help version quiet unknown rest file i = Unit {0}
+Inv-loop help₀ version₀ quiet₀ mode₀ unknown₀ rest₀ file₀ count i₀ help version quiet mode unknown rest file i =
+    Unit {0}
 
 abbrev μ-loop : tie.MeasureT-loop
-μ-loop help₀ version₀ quiet₀ unknown₀ rest₀ file₀ count i₀ help version quiet unknown rest file i = count - i
+μ-loop help₀ version₀ quiet₀ mode₀ unknown₀ rest₀ file₀ count i₀ help version quiet mode unknown rest file i =
+    count - i
 
 arg-count-requires : tie.Need-arg-count-requires Inv-loop μ-loop
 arg-count-requires c κs = tt
@@ -28,6 +30,12 @@ enum-told-2 c = search needs
 
 enum-told-3 : tie.Need-enum-told-3 Inv-loop μ-loop
 enum-told-3 c = search needs
+
+mode-by-requires : tie.Need-mode-by-requires Inv-loop μ-loop
+mode-by-requires c κs = tt
+
+quiet-by-requires : tie.Need-quiet-by-requires Inv-loop μ-loop
+quiet-by-requires c κs = tt
 
 enum-told-4 : tie.Need-enum-told-4 Inv-loop μ-loop
 enum-told-4 c = search needs
@@ -62,6 +70,8 @@ all-spec =
     enum-told
     enum-told-2
     enum-told-3
+    mode-by-requires
+    quiet-by-requires
     enum-told-4
     enum-told-5
     first-requires
