@@ -121,33 +121,27 @@ fn header_at(bytes: &[u8], start: usize) -> Front
     requires { ⌜ (length (now bytes) ≤ 1023) × (toldNumber (Number.At 1001 start) ≡ readUnsigned (now bytes) 0 12) ⌝ }
     ensures { λ r. ⌜ (message1001 .reads (now (bytes .entry)) 0 ≡ onward (now (bytes .entry)) r) × Begun (now (bytes .entry)) r ⌝ }
 {
-    // DF003: the reference station.
-    let number = take(bytes, start, 12);
+    let number = take(bytes, start, 12); // DF003: the reference station.
     let Number::At(station, at) = number else {
         return Front::Short(lack_of(number));
     };
-    // DF004: the GPS epoch time.
-    let number = take(bytes, at, 30);
+    let number = take(bytes, at, 30); // DF004: the GPS epoch time.
     let Number::At(epoch, at) = number else {
         return Front::Short(lack_of(number));
     };
-    // DF005: the synchronous GNSS flag.
-    let number = take(bytes, at, 1);
+    let number = take(bytes, at, 1); // DF005: the synchronous GNSS flag.
     let Number::At(synchronous, at) = number else {
         return Front::Short(lack_of(number));
     };
-    // DF006: the number of satellites.
-    let number = take(bytes, at, 5);
+    let number = take(bytes, at, 5); // DF006: the number of satellites.
     let Number::At(count, at) = number else {
         return Front::Short(lack_of(number));
     };
-    // DF007: the divergence-free smoothing indicator.
-    let number = take(bytes, at, 1);
+    let number = take(bytes, at, 1); // DF007: the divergence-free smoothing indicator.
     let Number::At(smoothing, at) = number else {
         return Front::Short(lack_of(number));
     };
-    // DF008: the smoothing interval.
-    let number = take(bytes, at, 3);
+    let number = take(bytes, at, 3); // DF008: the smoothing interval.
     let Number::At(interval, _) = number else {
         return Front::Short(lack_of(number));
     };

@@ -5,6 +5,7 @@ pub mod ReadLaws
 pub mod WriteLaws
 pub mod WrittenLaws
 pub mod RoundTrip
+pub mod WrittenBack
 pub mod ToldLaws
 pub mod KeepLaws
 pub mod Examples
