@@ -670,7 +670,7 @@ uint32_t ref_feed_all(uint8_t *held, size_t held_len, size_t held_count, uint64_
     extra[PV_AT_ALL_TAKEN] = seen - held_count;
     extra[PV_AT_ALL_SKIPPED] = skipped;
     extra[PV_AT_ALL_HELD_COUNT] = seen - at;
-    extra[PV_AT_ALL_FULL] = full;
+    extra[PV_AT_ALL_FULL] = (uint64_t)full;
     extra[PV_AT_ALL_PLACE] = taken - held_count;
     extra[PV_AT_ALL_ALL_TAKEN] = taken + seen - held_count;
     return PV_ACCEPTED;
