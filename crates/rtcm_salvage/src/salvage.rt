@@ -1,5 +1,6 @@
 // One recording: its pieces are fed, and then what is held is closed.
-ghost use Rattle.reading.specs.Account.{Right};
+ghost use mathlib.Core.Path.{_≡_};
+ghost use Rattle.reading.specs.Account.{Right, AllTaken};
 use crate::list;
 use crate::list::Given;
 use closing::reason;
@@ -13,6 +14,8 @@ use std::num;
 
 // What a part of the work came to.
 pub enum End {
+    // It goes on.
+    On,
     Well,
     // The recording could not be read to its end.
     Failed,
@@ -53,6 +56,13 @@ pub fn run(fd: i32, name: &[u8], log: i32, salvaged: bool) -> bool {
     is_well(end, given)
 }
 
+fn is_on(end: End) -> bool {
+    match end {
+        End::On => true,
+        _ => false,
+    }
+}
+
 fn is_stopped(end: End) -> bool {
     match end {
         End::Stopped => true,
@@ -81,138 +91,153 @@ fn feed(
 {
     let mut piece = io::large_buffer();
     let mut frame = [0u8; 1029];
-    let mut account = reading::start();
-    let mut given = list::none();
+    let mut now = over(reading::start(), list::none(), End::On);
     let mut turns = u64::MAX;
     while turns > 0 {
         turns -= 1;
-        let before = *held;
-        match reading::take(held, &piece, &mut frame, account) {
-            Taken::Frame {
-                place: _,
-                length,
-                kind: _,
-                account: a,
-            } => {
-                given = skipped(log, account, a, given, &before, &piece, out, at);
-                account = a;
-                if !written(salvaged, &frame, length) {
-                    return Done {
-                        account,
-                        given,
-                        end: End::Stopped,
-                    };
-                }
-            }
-            Taken::All(a) => {
-                given = skipped(log, account, a, given, &before, &piece, out, at);
-                account = a;
-                match reading::refill(fd, &mut piece, account) {
-                    Step::Piece(b) => {
-                        account = b;
-                    }
-                    Step::Failed(b) => {
-                        os::fail(name);
-                        return Done {
-                            account: b,
-                            given,
-                            end: End::Failed,
-                        };
-                    }
-                    _ => {
-                        return Done {
-                            account,
-                            given,
-                            end: End::Well,
-                        };
-                    }
-                }
-            }
-            Taken::Failed(a) => {
-                return Done {
-                    account: a,
-                    given,
-                    end: End::Failed,
-                };
-            }
+        now = fed(
+            fd,
+            name,
+            log,
+            salvaged,
+            now,
+            held,
+            &mut piece,
+            &mut frame,
+            out,
+            at,
+        );
+        let end = now.end;
+        if !is_on(end) {
+            return now;
         }
     }
+    now
+}
+
+// One turn of feeding: a frame is written, or the next piece is read.
+fn fed(
+    fd: i32,
+    name: &[u8],
+    log: i32,
+    salvaged: bool,
+    now: Done,
+    held: &mut [u8; 1029],
+    piece: &mut [u8; 65536],
+    frame: &mut [u8; 1029],
+    out: &mut [u8; 65536],
+    at: &mut usize,
+) -> Done
+    ensures { λ r. ⌜ (Right (now .account) → Right (r .account)) ⌝ }
+{
+    let before = *held;
+    match reading::take(held, piece, frame, now.account) {
+        Taken::Frame {
+            place: _,
+            length,
+            kind: _,
+            account: a,
+        } => {
+            let given = skipped(log, now.account, a, now.given, &before, piece, out, at);
+            over(a, given, written(salvaged, frame, length))
+        }
+        Taken::All(a) => {
+            let given = skipped(log, now.account, a, now.given, &before, piece, out, at);
+            refilled(fd, name, piece, a, given)
+        }
+        Taken::Failed(a) => over(a, now.given, End::Failed),
+    }
+}
+
+// Reads the next piece, behind which the recording goes on, or comes to its end.
+fn refilled(fd: i32, name: &[u8], piece: &mut [u8; 65536], account: Account, given: Given) -> Done
+    ensures { λ r. ⌜ (AllTaken account → Right (r .account)) ⌝ }
+{
+    match reading::refill(fd, piece, account) {
+        Step::Piece(b) => over(b, given, End::On),
+        Step::Failed(b) => {
+            os::fail(name);
+            over(b, given, End::Failed)
+        }
+        _ => over(account, given, End::Well),
+    }
+}
+
+fn over(account: Account, given: Given, end: End) -> Done
+    ensures { λ r. ⌜ r .account ≡ account ⌝ }
+{
     Done {
         account,
         given,
-        end: End::Well,
+        end,
     }
 }
 
 // Closes the recording: hands out what is held, until nothing is. The account is right.
 fn close(
     log: i32,
-    fed: Account,
-    listed: Given,
+    account: Account,
+    given: Given,
     held: &mut [u8; 1029],
     out: &mut [u8; 65536],
     at: &mut usize,
 ) -> Done
-    ensures { λ r. ⌜ (Right fed → Right (r .account)) ⌝ }
+    ensures { λ r. ⌜ (Right account → Right (r .account)) ⌝ }
 {
     let mut frame = [0u8; 1029];
-    let mut account = fed;
-    let mut given = listed;
+    let mut now = over(account, given, End::On);
     let mut turns: u32 = 1030;
     while turns > 0 {
         turns -= 1;
-        let before = *held;
-        match reading::close(held, &mut frame, account) {
-            Taken::Frame {
-                place: _,
-                length,
-                kind: _,
-                account: a,
-            } => {
-                given = given_up(log, account, a, given, &before, out, at);
-                account = a;
-                if !written(false, &frame, length) {
-                    return Done {
-                        account,
-                        given,
-                        end: End::Stopped,
-                    };
-                }
-            }
-            Taken::All(a) => {
-                given = given_up(log, account, a, given, &before, out, at);
-                return Done {
-                    account: a,
-                    given,
-                    end: End::Well,
-                };
-            }
-            Taken::Failed(a) => {
-                return Done {
-                    account: a,
-                    given,
-                    end: End::Failed,
-                };
-            }
+        now = closed(log, now, held, &mut frame, out, at);
+        let end = now.end;
+        if !is_on(end) {
+            return now;
         }
     }
-    Done {
-        account,
-        given,
-        end: End::Failed,
+    now
+}
+
+// One turn of closing: a frame is written, or all that is held is given up.
+fn closed(
+    log: i32,
+    now: Done,
+    held: &mut [u8; 1029],
+    frame: &mut [u8; 1029],
+    out: &mut [u8; 65536],
+    at: &mut usize,
+) -> Done
+    ensures { λ r. ⌜ (Right (now .account) → Right (r .account)) ⌝ }
+{
+    let before = *held;
+    match reading::close(held, frame, now.account) {
+        Taken::Frame {
+            place: _,
+            length,
+            kind: _,
+            account: a,
+        } => {
+            let given = given_up(log, now.account, a, now.given, &before, out, at);
+            over(a, given, written(false, frame, length))
+        }
+        Taken::All(a) => {
+            let given = given_up(log, now.account, a, now.given, &before, out, at);
+            over(a, given, End::Well)
+        }
+        Taken::Failed(a) => over(a, now.given, End::Failed),
     }
 }
 
-// Writes the frame, unless it is left out.
-fn written(left_out: bool, frame: &[u8; 1029], length: usize) -> bool {
+// Writes the frame, unless it is left out. The work goes on if that could be done.
+fn written(left_out: bool, frame: &[u8; 1029], length: usize) -> End {
     if left_out {
-        return true;
+        return End::On;
     }
     if io::write_all(STDOUT_FILENO, reading::frame_of(frame, length)) {
-        return true;
+        return End::On;
     }
     os::fail(b"standard output");
-    false
+    End::Stopped
 }
 
 // Lists what a feeding call skipped: the first bytes of those held before it and of the piece.
