@@ -113,11 +113,11 @@ static void try_false_starts(void)
 static void try_edges(void)
 {
     static const size_t lengths[] = { 0, PV_DATA_MAX };
-    static const size_t edges[] = { 66, 574, 1602, 3642, 4670 };
+    static const size_t edges[] = { 574, 1602, 4670 };
     static const size_t pieces[] = { 1000, PV_PIECE_MAX };
     static const uint8_t preamble[] = { 0xD3 };
     for (size_t l = 0; l < 2; l++)
-        for (size_t e = 0; e < 5; e++)
+        for (size_t e = 0; e < 3; e++)
             for (size_t off = 0; off < 3; off++)
                 for (size_t ends = 0; ends < 2; ends++) {
                     size_t frame_len = lengths[l] + PV_FRAME_MIN, place = edges[e] + off - 1;
