@@ -272,7 +272,7 @@ static void many_piece_sizes(size_t times)
     compare((struct cut){ PV_PIECE_MAX, 0 }, PV_ALL_MAX);
 }
 
-static void hostile_streams(void)
+static void hostile_streams(size_t len)
 {
     static const struct {
         const char *bytes;
@@ -288,7 +288,7 @@ static void hostile_streams(void)
     };
     for (size_t i = 0; i < sizeof patterns / sizeof patterns[0]; i++)
         for (size_t k = 0; k < 4; k++) {
-            repeat(patterns[i].bytes, patterns[i].n, 3500);
+            repeat(patterns[i].bytes, patterns[i].n, len);
             compare((struct cut){ 1, 0 }, list_places[k]);
             compare((struct cut){ 1 + below(1500), 0 }, list_places[k]);
             compare((struct cut){ 900, 1 }, list_places[k]);
@@ -473,7 +473,7 @@ int main(int argc, char **argv)
     never_full();
     strange_held(20 * times);
     random_streams(times);
-    hostile_streams();
+    hostile_streams(times >= 5 ? 3500 : 700);
     many_piece_sizes(times);
     for (int i = 2; i < argc; i++) {
         size_t n = strlen(argv[i]);
