@@ -156,41 +156,63 @@ fn scan(
     let mut held = [0u8; 1029];
     let mut piece = io::large_buffer();
     let mut frame = [0u8; 1029];
-    let mut account = reading::start_in(ways.mode);
-    let mut skips = skips::none();
+    let mut now = over(reading::start_in(ways.mode), skips::none(), End::On);
     let mut turns = u64::MAX;
     while turns > 0 {
         turns -= 1;
-        let before = held;
-        match reading::take(&mut held, &piece, &mut frame, account) {
-            Taken::Frame {
-                place,
-                length,
-                kind: _,
-                account: a,
-            } => {
-                skips = skipped(skips, account, a, &before, &piece);
-                account = a;
-                table::frame(out, at, ways, place, length, &frame, numbers);
-                if !shown(ways.quiet, out, at) {
-                    return over(account, skips, End::Stopped);
-                }
-            }
-            Taken::All(a) => {
-                skips = skipped(skips, account, a, &before, &piece);
-                let now = refilled(fd, name, ways, &mut piece, a, skips, out, at);
-                account = now.account;
-                let end = now.end;
-                if !is_on(end) {
-                    return now;
-                }
-            }
-            Taken::Failed(a) => {
-                return over(a, skips, End::Failed);
-            }
+        now = turned(
+            fd,
+            name,
+            ways,
+            now,
+            &mut held,
+            &mut piece,
+            &mut frame,
+            numbers,
+            out,
+            at,
+        );
+        let end = now.end;
+        if !is_on(end) {
+            return now;
         }
     }
-    over(account, skips, End::Well)
+    now
+}
+
+// One turn: a frame is shown, or the next piece is read.
+fn turned(
+    fd: i32,
+    name: &[u8],
+    ways: Ways,
+    now: Scanned,
+    held: &mut [u8; 1029],
+    piece: &mut [u8; 65536],
+    frame: &mut [u8; 1029],
+    numbers: &mut [u64; 4097],
+    out: &mut [u8; 65536],
+    at: &mut usize,
+) -> Scanned
+    ensures { λ r. ⌜ (Right (now .account) → Right (r .account)) ⌝ }
+{
+    let before = *held;
+    match reading::take(held, piece, frame, now.account) {
+        Taken::Frame {
+            place,
+            length,
+            kind: _,
+            account: a,
+        } => {
+            let skips = skipped(now.skips, now.account, a, &before, piece);
+            table::frame(out, at, ways, place, length, frame, numbers);
+            over(a, skips, shown(ways.quiet, out, at))
+        }
+        Taken::All(a) => {
+            let skips = skipped(now.skips, now.account, a, &before, piece);
+            refilled(fd, name, ways, piece, a, skips, out, at)
+        }
+        Taken::Failed(a) => over(a, now.skips, End::Failed),
+    }
 }
 
 // Reads the next piece, behind which the recording goes on, or comes to its end.
@@ -251,10 +273,13 @@ fn skipped(
     skips
 }
 
-// Writes the row that waits, if there are rows.
-fn shown(quiet: bool, out: &[u8; 65536], at: &mut usize) -> bool {
+// Writes the row that waits, if there are rows. The work goes on if that could be done.
+fn shown(quiet: bool, out: &[u8; 65536], at: &mut usize) -> End {
     if quiet {
-        return true;
+        return End::On;
     }
-    printing::flush(out, at)
+    if printing::flush(out, at) {
+        return End::On;
+    }
+    End::Stopped
 }

@@ -23,48 +23,49 @@ pub struct Ways {
 }
 
 pub fn all() -> Asked {
-    let mut help = false;
-    let mut version = false;
-    let mut quiet = false;
-    let mut mode: u32 = 0;
-    let mut unknown: usize = 0;
-    let mut rest: usize = 0;
-    let mut file: usize = 0;
+    let mut asked = Asked {
+        help: false,
+        version: false,
+        quiet: false,
+        mode: 0,
+        unknown: 0,
+        rest: 0,
+        file: 0,
+    };
     let count = os::arg_count();
     let mut i: usize = 1;
     while i < count {
-        match kind_at(i, rest) {
-            Kind::Help => {
-                help = true;
-            }
-            Kind::Version => {
-                version = true;
-            }
-            Kind::Own => {
-                mode = mode_by(i, mode);
-                quiet = quiet_by(i, quiet);
-            }
-            Kind::Rest => {
-                rest = i;
-            }
-            Kind::Unknown => {
-                unknown = first(unknown, i);
-            }
-            _ => {
-                file = i;
-            }
-        }
+        asked = with(asked, kind_at(i, asked.rest), i);
         i += 1;
     }
-    Asked {
-        help,
-        version,
-        quiet,
-        mode,
-        unknown,
-        rest,
-        file,
+    asked
+}
+
+// What is asked for with argument i.
+fn with(asked: Asked, kind: Kind, i: usize) -> Asked {
+    let mut now = asked;
+    match kind {
+        Kind::Help => {
+            now.help = true;
+        }
+        Kind::Version => {
+            now.version = true;
+        }
+        Kind::Own => {
+            now.mode = mode_by(i, asked.mode);
+            now.quiet = quiet_by(i, asked.quiet);
+        }
+        Kind::Rest => {
+            now.rest = i;
+        }
+        Kind::Unknown => {
+            now.unknown = first(asked.unknown, i);
+        }
+        _ => {
+            now.file = i;
+        }
     }
+    now
 }
 
 // The first of two places, of which 0 is none.
