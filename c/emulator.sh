@@ -8,8 +8,9 @@ kit=$(dirname "$(dirname "$(rt doc 2>/dev/null || echo /nowhere/docs/page)")")
 tools=$kit/on/$(uname -m)/toolchain
 qemu=$(command -v qemu-x86_64 || echo "$tools/bin/qemu-x86_64")
 [ -x "$qemu" ] || exit 0
+# The libraries are named too, so that loader and C library are of one version where the system has others for x86-64.
 if [ -d /usr/x86_64-linux-gnu/lib ]; then
-    echo "$qemu -L /usr/x86_64-linux-gnu"
+    echo "$qemu -L /usr/x86_64-linux-gnu -E LD_LIBRARY_PATH=/usr/x86_64-linux-gnu/lib"
 elif [ -f "$tools/lib/ld-linux-x86-64.so.2" ]; then
     echo "$qemu $tools/lib/ld-linux-x86-64.so.2 --library-path $tools/lib"
 fi
