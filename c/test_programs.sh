@@ -119,6 +119,8 @@ options() {
     check "$program --version" "$("$bin/$program" --version)" "$program $version"
     check "$program -h is --help" "$("$bin/$program" -h)" "$("$bin/$program" --help)"
     check "$program --help tells of the status" "$("$bin/$program" --help | grep -c 'exit status is always 0')" 1
+    "$bin/$program" --help >/dev/full 2>"$work/err"
+    check "$program: a help text that cannot be written is failure" "$(last_line)" "$program: failed"
     "$bin/$program" --no-such --nor-this "$@" >"$work/out" 2>"$work/err"
     check "$program: the first of two wrong options is named" "$(grep -c 'no such option: --no-such ' "$work/err")" 1
     check "$program: a wrong option is failure" "$(last_line)" "$program: failed"
@@ -280,6 +282,8 @@ salvage_options() {
     check "rtcm_salvage --version" "$("$bin/rtcm_salvage" --version)" "rtcm_salvage $version"
     check "rtcm_salvage -h is --help" "$("$bin/rtcm_salvage" -h)" "$("$bin/rtcm_salvage" --help)"
     check "rtcm_salvage --help tells of the status" "$("$bin/rtcm_salvage" --help | grep -c 'exit status is always 0')" 1
+    "$bin/rtcm_salvage" --help >/dev/full 2>"$work/err"
+    check "rtcm_salvage: a help text that cannot be written is failure" "$(last_line)" "rtcm_salvage: failed"
     for words in "--no-such --nor-this $1" "" "$1 $1" "--list" "$1 --list" "$work/missing" "--list $work/none/list $1"; do
         # shellcheck disable=SC2086
         "$bin/rtcm_salvage" $words >"$work/out" 2>"$work/err"

@@ -1,7 +1,6 @@
 // What the arguments ask for, and what is said to the user.
 use check::same;
 use libc::STDERR_FILENO;
-use libc::STDOUT_FILENO;
 use reading::arguments;
 use reading::arguments::Kind;
 
@@ -296,8 +295,8 @@ fn wrong_number() {
 }
 
 pub fn help() {
-    io::write_all(
-        STDOUT_FILENO,
+    arguments::tell(
+        b"rtcm_biases",
         b"rtcm_biases [--start N] [--start-1059 N] [--start-1230 N] [--edition N] [--latest] [--] FILE..
 
 Shows the biases in the RTCM 3 messages 1059 (GPS) and 1230 (GLONASS) of each file (- is standard

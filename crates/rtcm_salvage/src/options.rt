@@ -1,7 +1,6 @@
 // What the arguments ask for, and what is said to the user.
 use check::same;
 use libc::STDERR_FILENO;
-use libc::STDOUT_FILENO;
 use reading::arguments;
 use reading::arguments::Kind;
 
@@ -169,8 +168,8 @@ pub fn say_wrong(asked: Asked) {
 }
 
 pub fn help() {
-    io::write_all(
-        STDOUT_FILENO,
+    arguments::tell(
+        b"rtcm_salvage",
         b"rtcm_salvage [--salvaged] [--list FILE] [--] FILE
 
 Writes the good RTCM 3 frames of a recording (- is standard input), unchanged, to standard

@@ -1,6 +1,5 @@
 // What the arguments ask for, and what is said to the user.
 use check::same;
-use libc::STDOUT_FILENO;
 use reading::arguments;
 use reading::arguments::Kind;
 
@@ -110,8 +109,8 @@ pub fn kind_of(word: &[u8], i: usize, rest: usize) -> Kind {
 }
 
 pub fn help() {
-    io::write_all(
-        STDOUT_FILENO,
+    arguments::tell(
+        b"rtcm_scan",
         b"rtcm_scan [--quiet] [--ubx] [--] FILE..
 
 Shows the RTCM 3 frames of each file (- is standard input): a row for each, with its place,
