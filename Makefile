@@ -26,9 +26,11 @@ LIB ?= peerivolt
 
 # The archive is for x86-64. On another machine what is linked with it is built by Debian's cross compiler
 # (gcc-x86-64-linux-gnu, g++-x86-64-linux-gnu) and run by an emulator, in which neither the address sanitizer nor valgrind
-# works; a tenth of the random calls is made there. Without the two, the tests run against the plain reference alone.
+# works; a tenth of the random calls is made there. Without the two, the tests run against the plain reference alone; the
+# address sanitizer then looks for no leaks, which takes seconds of each program on Arm, and valgrind does.
 ifneq ($(shell uname -m),x86_64)
 EMULATOR := $(shell c/emulator.sh)
+export ASAN_OPTIONS := detect_leaks=0
 ifeq ($(LIB),peerivolt)
 FOREIGN := yes
 CC := x86_64-linux-gnu-gcc
