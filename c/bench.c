@@ -109,7 +109,7 @@ void check_answers(const char *name, const struct side *sides, size_t n)
 
 struct cost row(const char *name, a_work *work, a_work *rust, a_work *rtklib, const void *input, double per)
 {
-    a_work *works[SIDES] = { work, work, work, rust, rtklib };
+    a_work *const works[SIDES] = { work, work, work, rust, rtklib };
     struct side sides[SIDES];
     double ns[SIDES];
     struct cost cost = { 0 };

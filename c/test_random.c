@@ -524,7 +524,7 @@ static void try_feed_refusals(size_t held_count)
     uint64_t taken = one_in(2) ? held_count + below(9) : PICK(0, 1, 1028, most - 65536, most - 8, most, most + 1, UINT64_MAX);
     if (one_in(3))
         held_count = PICK(1030, 1031, SIZE_MAX, (size_t)1 << 32);
-    uint32_t mode = one_in(3) ? PICK(2, 3, UINT32_MAX) : below(2);
+    uint32_t mode = (uint32_t)(one_in(3) ? PICK(2, 3, UINT32_MAX) : below(2));
     feed_both(held_count, taken, mode);
     if (one_in(2))
         close_both(held_count, taken, mode);
@@ -541,7 +541,7 @@ static void try_strange_held(void)
     fill(&piece, stream);
     lend_random(&out, PV_FRAME_MAX + below(5));
     uint64_t taken = held_count + (one_in(2) ? 0 : below(100000));
-    uint32_t mode = below(2);
+    uint32_t mode = (uint32_t)below(2);
     if (one_in(2))
         close_both(held_count, taken, mode);
     else
@@ -577,7 +577,7 @@ static void try_stream(void)
     size_t kind = below(5);
     size_t place = 0;
     size_t held_count = 0;
-    uint32_t mode = below(2);
+    uint32_t mode = (uint32_t)below(2);
     lend_random(&held, PV_HELD_SIZE);
     lend_random(&out, PV_FRAME_MAX);
     while (place < n) {
