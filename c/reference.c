@@ -443,8 +443,9 @@ uint32_t ref_cache_store(struct pv_cache_entry *entries, size_t entries_len, uin
     return PV_ACCEPTED;
 }
 
-uint32_t ref_cache_remove(struct pv_cache_entry *entries, size_t entries_len, uint32_t provider, uint32_t solution,
-                          uint32_t satellite, uint32_t signal, uint64_t *extra, size_t extra_len)
+/* Where the entry of a key stands, or why there is none. */
+static uint32_t find(const struct pv_cache_entry *entries, size_t entries_len, uint32_t provider, uint32_t solution,
+                     uint32_t satellite, uint32_t signal, uint64_t *extra, size_t extra_len, size_t *at)
 {
     if (extra_len != PV_EXTRA_SIZE)
         return PV_SIZE;
@@ -452,9 +453,19 @@ uint32_t ref_cache_remove(struct pv_cache_entry *entries, size_t entries_len, ui
         return refuse(extra, PV_SIZE, 0);
     if (!key_fits(provider, solution, satellite, signal))
         return refuse(extra, PV_RANGE, 0);
-    size_t at = place_of(entries, entries_len, provider, solution, satellite, signal);
-    if (at == entries_len)
+    *at = place_of(entries, entries_len, provider, solution, satellite, signal);
+    if (*at == entries_len)
         return refuse(extra, PV_ABSENT, 0);
+    return PV_ACCEPTED;
+}
+
+uint32_t ref_cache_remove(struct pv_cache_entry *entries, size_t entries_len, uint32_t provider, uint32_t solution,
+                          uint32_t satellite, uint32_t signal, uint64_t *extra, size_t extra_len)
+{
+    size_t at = 0;
+    uint32_t answer = find(entries, entries_len, provider, solution, satellite, signal, extra, extra_len, &at);
+    if (answer != PV_ACCEPTED)
+        return answer;
     memset(&entries[at], 0, sizeof entries[at]);
     clear(extra);
     return PV_ACCEPTED;
@@ -463,15 +474,10 @@ uint32_t ref_cache_remove(struct pv_cache_entry *entries, size_t entries_len, ui
 uint32_t ref_cache_lookup(const struct pv_cache_entry *entries, size_t entries_len, uint32_t provider, uint32_t solution,
                           uint32_t satellite, uint32_t signal, uint64_t *extra, size_t extra_len)
 {
-    if (extra_len != PV_EXTRA_SIZE)
-        return PV_SIZE;
-    if (entries_len > PV_CACHE_MAX)
-        return refuse(extra, PV_SIZE, 0);
-    if (!key_fits(provider, solution, satellite, signal))
-        return refuse(extra, PV_RANGE, 0);
-    size_t at = place_of(entries, entries_len, provider, solution, satellite, signal);
-    if (at == entries_len)
-        return refuse(extra, PV_ABSENT, 0);
+    size_t at = 0;
+    uint32_t answer = find(entries, entries_len, provider, solution, satellite, signal, extra, extra_len, &at);
+    if (answer != PV_ACCEPTED)
+        return answer;
     return accept_two(extra, entries[at].iod, (uint64_t)(int64_t)entries[at].bias);
 }
 

@@ -10,6 +10,7 @@
 
 #include "random.h"
 #include "reference.h"
+#include "ubx.h"
 
 static uint8_t stream[PV_PIECE_MAX + 2 * PV_FRAME_MAX];
 static size_t stream_len;
@@ -201,24 +202,6 @@ static size_t put_frame(uint8_t *to, size_t n)
         data[i] = (uint8_t)random64();
     CHECK_EQ(ref_frame_write(data, n, to, n + 6, numbers, PV_EXTRA_SIZE), PV_ACCEPTED);
     return n + 6;
-}
-
-static size_t put_ubx(uint8_t *to, size_t n)
-{
-    unsigned a = 0, b = 0;
-    to[0] = 0xB5;
-    to[1] = 0x62;
-    for (size_t i = 2; i < n + 6; i++)
-        to[i] = (uint8_t)random64();
-    to[4] = (uint8_t)n;
-    to[5] = (uint8_t)(n >> 8);
-    for (size_t i = 2; i < n + 6; i++) {
-        a = (a + to[i]) % 256;
-        b = (b + a) % 256;
-    }
-    to[n + 6] = (uint8_t)a;
-    to[n + 7] = (uint8_t)b;
-    return n + 8;
 }
 
 /* Frames of both kinds, short and long, with noise, damage and false starts between. */

@@ -6,47 +6,16 @@
 #include "test.h"
 
 #include "random.h"
-#include "reference.h"
+#include "streams.h"
 
 #define STREAM_MAX 12000
 
 static uint8_t stream[STREAM_MAX];
 
-struct outcome {
-    uint64_t sum, frames, skipped, held;
-};
-
-static void add_frame(struct outcome *outcome, uint64_t place, const uint8_t *frame, size_t n)
-{
-    outcome->frames++;
-    outcome->sum = (outcome->sum ^ place) * 0x100000001B3;
-    for (size_t i = 0; i < n; i++)
-        outcome->sum = (outcome->sum ^ frame[i]) * 0x100000001B3;
-}
-
-static struct outcome scanned(uint32_t mode, size_t n)
-{
-    struct outcome outcome = { 0, 0, 0, 0 };
-    size_t place = 0;
-    for (;;) {
-        size_t frame_len = 1;
-        enum ref_fate fate = ref_scan(mode, stream, n, place, &frame_len);
-        if (fate == REF_HELD)
-            break;
-        if (fate == REF_FRAME)
-            add_frame(&outcome, place, stream + place, frame_len);
-        else
-            outcome.skipped++;
-        place += frame_len;
-    }
-    outcome.held = n - place;
-    return outcome;
-}
-
 static struct outcome fed_in(size_t piece, uint32_t mode, size_t n)
 {
     static uint8_t held[PV_HELD_SIZE], out[PV_FRAME_MAX];
-    struct outcome outcome = { 0, 0, 0, 0 };
+    struct outcome outcome = { 0, 0, 0, 0, 0 };
     uint64_t extra[PV_EXTRA_SIZE];
     size_t place = 0;
     while (place < n) {
@@ -68,7 +37,7 @@ static struct outcome fed_in(size_t piece, uint32_t mode, size_t n)
 static void try_pieces(uint32_t modes, const size_t *pieces, size_t count, size_t n)
 {
     for (uint32_t mode = 0; mode < modes; mode++) {
-        struct outcome expected = scanned(mode, n);
+        struct outcome expected = whole_stream_scan(mode, stream, n);
         for (size_t i = 0; i < count; i++) {
             struct outcome got = fed_in(pieces[i], mode, n);
             CHECK_EQ(got.sum, expected.sum);

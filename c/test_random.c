@@ -7,8 +7,9 @@
 #include "test.h"
 
 #include "random.h"
-#include "reference.h"
 #include "signals.h"
+#include "streams.h"
+#include "ubx.h"
 
 /* ---- Random numbers. ---- */
 
@@ -377,30 +378,11 @@ static void try_cache(void)
 
 static uint8_t stream[STREAM_MAX];
 
-/* A UBX frame, made by the public description: at most 1,100 bytes of payload, and so some that are too long. */
-static size_t put_ubx(uint8_t *to)
-{
-    size_t n = one_in(12) ? PICK(0, 1, 1020, 1021, 1022, 1023, 1100) : below(one_in(4) ? 400 : 20);
-    unsigned a = 0, b = 0;
-    to[0] = 0xB5;
-    to[1] = 0x62;
-    for (size_t i = 2; i < n + 6; i++)
-        to[i] = (uint8_t)random64();
-    to[4] = (uint8_t)n;
-    to[5] = (uint8_t)(n >> 8);
-    for (size_t i = 2; i < n + 6; i++) {
-        a = (a + to[i]) % 256;
-        b = (b + a) % 256;
-    }
-    to[n + 6] = (uint8_t)a;
-    to[n + 7] = (uint8_t)b;
-    return n + 8;
-}
-
 /* A UBX frame that is good, damaged or cut, B5 alone or in a run, or B5 62 and any length. */
 static size_t put_ubx_part(uint8_t *to)
 {
-    size_t n = put_ubx(to);
+    /* At most 1,100 bytes of payload, and so some that are too long. */
+    size_t n = put_ubx(to, one_in(12) ? PICK(0, 1, 1020, 1021, 1022, 1023, 1100) : below(one_in(4) ? 400 : 20));
     switch (below(6)) {
     case 0:
         damage(to, n);
@@ -457,39 +439,6 @@ static size_t random_stream(void)
     while (n < limit)
         n += put_part(stream + n);
     return n;
-}
-
-/* What came out of a stream: kept as a checksum of the frames and their places in order, and counts. */
-struct outcome {
-    uint64_t frames, frame_bytes, sum, skipped, held;
-};
-
-static void add_frame(struct outcome *outcome, uint64_t place, const uint8_t *frame, size_t n)
-{
-    outcome->frames++;
-    outcome->frame_bytes += n;
-    outcome->sum = (outcome->sum ^ place) * 0x100000001B3;
-    for (size_t i = 0; i < n; i++)
-        outcome->sum = (outcome->sum ^ frame[i]) * 0x100000001B3;
-}
-
-static struct outcome whole_stream_scan(uint32_t mode, size_t n)
-{
-    struct outcome outcome = { 0, 0, 0, 0, 0 };
-    size_t place = 0;
-    for (;;) {
-        size_t frame_len = 1;
-        enum ref_fate fate = ref_scan(mode, stream, n, place, &frame_len);
-        if (fate == REF_HELD)
-            break;
-        if (fate == REF_FRAME)
-            add_frame(&outcome, place, stream + place, frame_len);
-        else
-            outcome.skipped++;
-        place += frame_len;
-    }
-    outcome.held = n - place;
-    return outcome;
 }
 
 static uint32_t feed_both(size_t held_count, uint64_t taken, uint32_t mode)
@@ -599,7 +548,7 @@ static void try_stream(void)
         CHECK_EQ(outcome.frame_bytes + outcome.skipped + held_count, place);
     }
     outcome.held = held_count;
-    struct outcome expected = whole_stream_scan(mode, n);
+    struct outcome expected = whole_stream_scan(mode, stream, n);
     CHECK(memcmp(&outcome, &expected, sizeof outcome) == 0);
 }
 
