@@ -14,7 +14,9 @@
 # RUST_SOURCE names the source of rtcm-rs, which is else looked for in ../shared/docs/src. A named one has to be there.
 #
 # LIB=ref or LIB=plain puts a stand-in in the place of the library (the plain reference, or the plain C program of the
-# benchmark), to try the tests without it. Stand-ins stay in build/ and are never installed but below it.
+# benchmark), to try the tests without it. LIB=native is the library itself, compiled for this machine where that is not
+# x86-64 (c/native.sh); `make bench`, `make bench-worst` and `make differential` take it there. All three stay in build/ and
+# are never installed but below it.
 
 # The version stands in the header. The number in the shared object's name goes up by one whenever a program that was
 # built before would not run with it any more: another layout of struct pv_scanner, other parameters of a call.
@@ -87,7 +89,7 @@ SAN_ARCHIVE := libpeerivolt.a
 SHARED := $(SONAME)
 else
 ARCHIVE := $(B)/libpeerivolt.a
-SAN_ARCHIVE := $(B)/san/libpeerivolt.a
+SAN_ARCHIVE := $(if $(filter native,$(LIB)),$(ARCHIVE),$(B)/san/libpeerivolt.a)
 SHARED := $(B)/$(SONAME)
 endif
 
@@ -96,8 +98,13 @@ endif
 STAND_IN := stand_in reference plain plain_table
 STAND_IN_FLAG := $(if $(filter plain,$(LIB)),-DSTAND_IN_PLAIN)
 
+ifeq ($(LIB),native)
+build/native/libpeerivolt.a: $(RATTLE_FILES) c/native.sh
+	c/native.sh
+else
 build/$(LIB)/libpeerivolt.a: $(STAND_IN:%=$(B)/pic/%.o)
 	rm -f $@ && $(AR) rcs $@ $^
+endif
 
 build/$(LIB)/san/libpeerivolt.a: $(STAND_IN:%=$(B)/san/%.o)
 	rm -f $@ && $(AR) rcs $@ $^
@@ -299,6 +306,11 @@ install: $(ARCHIVE) $(SHARED)
 
 # ---- Other runs.
 
+ifdef FOREIGN
+bench bench-worst differential:
+	@echo "The archive is for x86-64. What follows is of the same module, compiled for $$(uname -m)."
+	@$(MAKE) --no-print-directory $@ LIB=native
+else
 # The archives of the Rust and of RTKLIB are built where they can be; else run.sh and rtklib.sh say why not, and the
 # column stays empty.
 bench: $(ARCHIVE)
@@ -320,6 +332,7 @@ bench-worst: $(B)/opt/bench_worst
 
 differential: $(ARCHIVE)
 	RTCM_RS_SOURCE="$(RUST_SOURCE)" PEERIVOLT_ARCHIVE="$(CURDIR)/$(ARCHIVE)" differential/run.sh
+endif
 
 differential-faults:
 	RTCM_RS_SOURCE="$(RUST_SOURCE)" differential/faults.sh
