@@ -15,7 +15,7 @@ use Rattle.frames.specs.Feed.{Next, Held, Found, next, only}
 use Rattle.frames.specs.Call as call
 use Rattle.frames.specs.Call.{Scanner, afresh, heldFrom, onwards, FedAnswer, called, feedOf}
 use Rattle.frames.specs.Close.{Gave, closing, closed, ending, Done, Frame, closedBy, closeOf}
-use Rattle.frames.specs.Offered.{found, Calls}
+use Rattle.frames.specs.Offered.{handedOut, Calls}
 use Rattle.frames.proofs.FramingLaws.{Whole, decides}
 use Rattle.frames.proofs.ItemLaws.{bytes-append, handed-append, handed-none, handed-one, skipped-append, length-items}
 use Rattle.frames.proofs.FeedLaws.{begins, scan-next}
@@ -86,7 +86,7 @@ module _ {W K : Type 0} (F : Framing W K) where
       -- Frame: some bytes are skipped, the frame is in the output, and the rest is held
       abbrev Stops : ℕ → ℕ → K → Type 0
       Stops l i k =
-          (handed (heldFrom x) (closed F h) ≡ found i k l q ∷ handed (heldFrom y) (closed F (take (y .count) b)))
+          (handed (heldFrom x) (closed F h) ≡ handedOut i k l q ∷ handed (heldFrom y) (closed F (take (y .count) b)))
           × (skippedOf (closed F h) ≡ s + skippedOf (closed F (take (y .count) b))) × (y .mode ≡ x .mode)
 
       of-done : (r : Next (Gave W) K) → scan (closing (decide F)) h ≡ begins (decide (ending F)) r → Kept h [] (only r)
@@ -124,7 +124,7 @@ module _ {W K : Type 0} (F : Framing W K) where
           let bs : bytesOf js ++ g ≡ h = simp (bytes-append, append-assoc, append-nil) (kp .1 .bytes ∙ append-nil h) in
           let len = simp length-append at (ap length bs) in
           let at : heldFrom x + length (bytesOf js) ≡ heldFrom y = omega (arith, len, yt, ym, held-count (ending F) a x [] o fits, fits .held) in
-          let one : _≡_ {A = List (Handed K)} (handed (heldFrom x) js) (found i k l q ∷ []) =
+          let one : _≡_ {A = List (Handed K)} (handed (heldFrom x) js) (handedOut i k l q ∷ []) =
           handed-one (heldFrom x) is j f (kp .1 .none) ∙ (λ n. record { place = yi n; kind = yk n; bytes = sym tf n } ∷ []) in
           let sum : skippedOf js ≡ s = skipped-append is (Framed j f ∷ []) ∙ rw (skipped-alone is (kp .1 .none)) (omega (arith, ys)) in (
             ap (handed (heldFrom x)) u ∙ handed-append (heldFrom x) js (closed F g) ∙ (λ n. one n ++ handed (at n) (closed F (sym tg n))),
@@ -142,7 +142,7 @@ module _ {W K : Type 0} (F : Framing W K) where
           (g .0, g .1, sym (r .3) ∙ (λ j. call.fresh (g .2 j)))
 
       call-stops : (l i : ℕ) (k : K) → closeOf F a x o ≡ outcome (Accepted (Frame l s i k y)) (b, q)
-          → (handed (heldFrom x) (closed F (take (x .count) a)) ≡ found i k l q ∷ handed (heldFrom y) (closed F (take (y .count) b)))
+          → (handed (heldFrom x) (closed F (take (x .count) a)) ≡ handedOut i k l q ∷ handed (heldFrom y) (closed F (take (y .count) b)))
           × (skippedOf (closed F (take (x .count) a)) ≡ s + skippedOf (closed F (take (y .count) b))) × (y .mode ≡ x .mode)
       call-stops l i k e =
           let r = is-found (feedOf (ending F) a x [] o .answer) l s i k y (ap (λ z. z .answer) (sym (close-is F a x o) ∙ e)) in
@@ -192,7 +192,7 @@ module _ {W K : Type 0} (F : Framing W K) where
     closes (then {a} {b} {q} {x} {y} {z} {s} {l} {i} {u} {k} {fs} o e rest) =
         let g = call-stops a x o b q s y l i k e in
         let r = closes rest in
-        (g .0 ∙ (λ j. found i k l q ∷ r .0 j), g .1 ∙ (λ j. s + r .1 j), r .2 ∙ (λ j. call.fresh (g .2 j)))
+        (g .0 ∙ (λ j. handedOut i k l q ∷ r .0 j), g .1 ∙ (λ j. s + r .1 j), r .2 ∙ (λ j. call.fresh (g .2 j)))
 
     -- ---- and they come to Done
 
@@ -230,7 +230,7 @@ module _ {W K : Type 0} (F : Framing W K) where
             } in
             let less : length (closed F (take (length g) (onto g a))) < n = rw tg (omega (arith, simp length-append at (ap length u))) in
             let z = ih (onto g a) (onwards x 0 (length g)) fits less in
-            (found (heldFrom x + length is) j (length p) (onto p o) ∷ z .0, length is + z .1, z .2, then o (is-closed a x o f (Found is j p g) e) (z .3))
+            (handedOut (heldFrom x + length is) j (length p) (onto p o) ∷ z .0, length is + z .1, z .2, then o (is-closed a x o f (Found is j p g) e) (z .3))
 
     -- CLOSING COMES TO DONE after finitely many calls, with the same output lent again.
     pub comes : (a : List ℕ) (x : Scanner) (o : List ℕ) → Fits a x [] o → Comes a x

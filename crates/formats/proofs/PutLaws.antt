@@ -22,7 +22,7 @@ use Rattle.bits.proofs.FieldsLaws.{total-none, total-one, total-append, put-non
 use Rattle.bits.proofs.field.Written.{the-type}
 use Rattle.bits.proofs.WriteLaws.{writes}
 use Rattle.bits.proofs.ToldLaws.{only-wrote}
-use Rattle.formats.specs.Put.{Fits, Did}
+use Rattle.formats.specs.Put.{RoomFor, IsPut}
 
 -- the test for room, as the code makes it
 pub room-test : (start n all : ℕ) → n ≤ all → leb start (all - n) ≡ leb (start + n) all
@@ -33,8 +33,8 @@ room-test start n all h = go (decLe start (all - n))
     go (no l) = lt-leb start (all - n) (omega arith) ∙ sym (lt-leb (start + n) all (omega arith))
 
 -- nothing is put
-pub did-none : (s : List ℕ) (p : ℕ) {fs : List Field} → fs ≡ [] → Did s p fs s p
-did-none s p {fs} e = subst (λ (l : List Field). Did s p l s p) (sym e) (record { end = sym (ap (λ (n : ℕ). p + n) total-none ∙ add-zero p); left = sym (put-none s p) })
+pub is-put-none : (s : List ℕ) (p : ℕ) {fs : List Field} → fs ≡ [] → IsPut s p fs s p
+is-put-none s p {fs} e = subst (λ (l : List Field). IsPut s p l s p) (sym e) (record { end = sym (ap (λ (n : ℕ). p + n) total-none ∙ add-zero p); left = sym (put-none s p) })
 
 -- of the run fs₀ from bit p₀ of s₀ on, fs is left to put from bit p of s on
 pub record Left (s₀ : List ℕ) (p₀ : ℕ) (fs₀ : List Field) (s : List ℕ) (p : ℕ) (fs : List Field) : Type 0 where
@@ -55,11 +55,11 @@ module _ {s₀ : List ℕ} {p₀ : ℕ} {fs₀ : List Field} {s : List ℕ} {p :
   left-as e l = subst (λ x. Left s₀ p₀ fs₀ s p x) e l
 
   -- what is left fits
-  pub left-fits-all : (fs : List Field) → Left s₀ p₀ fs₀ s p fs → Fits s₀ p₀ fs₀ → Fits s p fs
+  pub left-fits-all : (fs : List Field) → Left s₀ p₀ fs₀ s p fs → RoomFor s₀ p₀ fs₀ → RoomFor s p fs
   left-fits-all fs l f = record { few = omega (arith, l .same, f .few); within = omega (arith, l .same, l .place, f .within) }
 
   -- the first part of what is left fits
-  pub left-fits : (xs ys : List Field) → Left s₀ p₀ fs₀ s p (xs ++ ys) → Fits s₀ p₀ fs₀ → Fits s p xs
+  pub left-fits : (xs ys : List Field) → Left s₀ p₀ fs₀ s p (xs ++ ys) → RoomFor s₀ p₀ fs₀ → RoomFor s p xs
   left-fits xs ys l f =
       record {
         few = omega (arith, l .same, f .few);
@@ -67,7 +67,7 @@ module _ {s₀ : List ℕ} {p₀ : ℕ} {fs₀ : List Field} {s : List ℕ} {p :
       }
 
   -- once it is put, the second part is left
-  pub left-put : (xs ys : List Field) {t : List ℕ} {q : ℕ} → Left s₀ p₀ fs₀ s p (xs ++ ys) → Did s p xs t q → Left s₀ p₀ fs₀ t q ys
+  pub left-put : (xs ys : List Field) {t : List ℕ} {q : ℕ} → Left s₀ p₀ fs₀ s p (xs ++ ys) → IsPut s p xs t q → Left s₀ p₀ fs₀ t q ys
   left-put xs ys {t} {q} l d =
       record {
         same = ap length (d .left) ∙ length-put-all s p xs ∙ l .same;
@@ -79,7 +79,7 @@ module _ {s₀ : List ℕ} {p₀ : ℕ} {fs₀ : List Field} {s : List ℕ} {p :
       }
 
   -- nothing is left
-  pub left-none : Left s₀ p₀ fs₀ s p [] → Did s₀ p₀ fs₀ s p
+  pub left-none : Left s₀ p₀ fs₀ s p [] → IsPut s₀ p₀ fs₀ s p
   left-none l =
       record {
         end = omega (arith, l .place, total-none);
@@ -92,18 +92,18 @@ module _ {s₀ : List ℕ} {p₀ : ℕ} {fs₀ : List Field} {s : List ℕ} {p :
 not-end : (q : ℕ) → OneOf (1 ∷ 2 ∷ 3 ∷ 4 ∷ []) (tagOf the-type (End q)) → ⊥
 not-end q o = ⊎-elim (λ p. omega arith) (λ x. ⊎-elim (λ p. omega arith) (λ y. ⊎-elim (λ p. omega arith) (λ p. omega arith) y) x) o
 
-module _ (fitting : Bool) (v : ℕ) (s : List ℕ) (p w : ℕ) (f : Fits s p (bits w v ∷ [])) (low : 1 ≤ w) (high : w ≤ 64) (g : fitting ≡ true)
+module _ (fitting : Bool) (v : ℕ) (s : List ℕ) (p w : ℕ) (f : RoomFor s p (bits w v ∷ [])) (low : 1 ≤ w) (high : w ≤ 64) (g : fitting ≡ true)
     (r : Written) (t : List ℕ) (e : outcome (toldWritten r) t ≡ writeBy fitting v s p w) where
-  ended : (r ≡ End (p + w)) × (Did s p (bits w v ∷ []) t (p + w))
+  ended : (r ≡ End (p + w)) × (IsPut s p (bits w v ∷ []) t (p + w))
   ended =
       let o = only-wrote (writeBy fitting v s p w) e (sym (writes fitting v s p w (f .few) low high g (omega (arith, f .within, total-one w v)))) in
       (o .0, record { end = omega (arith, total-one w v); left = o .1 ∙ sym (put-one s p w v) })
 
-  pub did-one : (q : ℕ) → r ≡ End q → Did s p (bits w v ∷ []) t q
-  did-one q n =
+  pub is-put-one : (q : ℕ) → r ≡ End q → IsPut s p (bits w v ∷ []) t q
+  is-put-one q n =
       let b : End q ≡ End (p + w) = sym n ∙ ended .0 in
       let d : p + w ≡ q = cc in
-      subst (λ (x : ℕ). Did s p (bits w v ∷ []) t x) d (ended .1)
+      subst (λ (x : ℕ). IsPut s p (bits w v ∷ []) t x) d (ended .1)
 
-  pub did-else : (q : ℕ) → OneOf (1 ∷ 2 ∷ 3 ∷ 4 ∷ []) (tagOf the-type r) → Did s p (bits w v ∷ []) t q
-  did-else q o = absurd (not-end (p + w) (subst (λ (x : Written). OneOf (1 ∷ 2 ∷ 3 ∷ 4 ∷ []) (tagOf the-type x)) (ended .0) o))
+  pub is-put-else : (q : ℕ) → OneOf (1 ∷ 2 ∷ 3 ∷ 4 ∷ []) (tagOf the-type r) → IsPut s p (bits w v ∷ []) t q
+  is-put-else q o = absurd (not-end (p + w) (subst (λ (x : Written). OneOf (1 ∷ 2 ∷ 3 ∷ 4 ∷ []) (tagOf the-type x)) (ended .0) o))

@@ -14,7 +14,7 @@ use Rattle.frames.specs.Feed as fed
 use Rattle.frames.specs.Feed.{Fed, feed}
 use Rattle.bits.specs.Onto.{onto}
 use Rattle.frames.specs.Call.{Scanner, fresh, heldFrom, onwards, More, Frame, called, feedOf}
-use Rattle.frames.specs.Offered.{Scans, Pieces, none, one, found, Offered, last, then, Offers, end, piece}
+use Rattle.frames.specs.Offered.{Scans, Pieces, none, one, handedOut, Offered, last, then, Offers, end, piece}
 use Rattle.frames.proofs.FramingLaws.{decides}
 use Rattle.frames.proofs.ItemLaws.{bytes-append, handed-append, handed-none, handed-one, skipped-append}
 use Rattle.frames.proofs.JoinLaws.{join, every-byte, held-waits}
@@ -98,7 +98,7 @@ module _ {W K : Type 0} (F : Framing W K) where
         let m = simp (length-append, length-take-le t p (g .keeps .0)) at (ap length w) in
         let n : heldFrom y ≡ heldFrom x + length (bytesOf is) = omega (arith, yt, m, held-count F a x p o f, f .held, g .held) in
         let j = scans-after (heldFrom x) (take (x .count) a ++ p) (take (y .count) b ++ drop t p) is fs u (take (z .count) c) v (subst (λ n. Scans F n (take (y .count) b ++ drop t p) fs u (take (z .count) c)) n (r .scans)) in
-        let one : _≡_ {A = List (Handed K)} (handed (heldFrom x) is) (found i k l q ∷ []) = handed-one (heldFrom x) (g .items) k (take l q) (g .keeps .1 .none) ∙ ap (λ n. found n k l q ∷ []) (g .place) in
+        let one : _≡_ {A = List (Handed K)} (handed (heldFrom x) is) (handedOut i k l q ∷ []) = handed-one (heldFrom x) (g .items) k (take l q) (g .keeps .1 .none) ∙ ap (λ n. handedOut n k l q ∷ []) (g .place) in
         let sum : skippedOf is ≡ s = skipped-append (g .items) (Framed k (take l q) ∷ []) ∙ rw (g .count) (omega arith) in
         record {
           scans = rw (one, sum) at j;
@@ -177,7 +177,7 @@ module _ {W K : Type 0} (F : Framing W K) where
     Ends a x p = (fs : List (Handed K)) × (s : ℕ) × (b : List ℕ) × (y : Scanner) × Offered F a x p fs s b y
 
     frame-first : {a p b q : List ℕ} {x y : Scanner} {t s l i : ℕ} {k : K} (o : List ℕ) → feedOf F a x p o ≡ outcome (Accepted (Frame l t s i k y)) (b, q) → Ends b y (drop t p) → Ends a x p
-    frame-first {a} {p} {b} {q} {x} {y} {t} {s} {l} {i} {k} o e z = (found i k l q ∷ z .0, s + z .1, z .2, z .3, then o e (z .4))
+    frame-first {a} {p} {b} {q} {x} {y} {t} {s} {l} {i} {k} o e z = (handedOut i k l q ∷ z .0, s + z .1, z .2, z .3, then o e (z .4))
 
     ends-within : (n : ℕ) (o : List ℕ) (a : List ℕ) (x : Scanner) (p : List ℕ) → Fits a x p o → length (scan (decide F) (take (x .count) a ++ p) .items) < n → Ends a x p
     ends-within zero o a x p f l = absurd (not-suc-le-zero l)

@@ -18,38 +18,38 @@ use Rattle.frames.specs.Feed.{Next, Held, Found, skipping, nextStep, nex
 use Rattle.frames.specs.Call as call
 use Rattle.frames.specs.Call.{Scanner, FedAnswer, feedOf}
 use Rattle.frames.specs.Close.{Gave, Judged, Unfinished, final, ending, ClosedAnswer, closedBy, closeOf}
-use Rattle.frames.specs.Steps.{Start, seen, seenBy, sight, Movable, moved}
-use Rattle.frames.specs.declared.scan.Seen.the-variants.{Incomplete, NotValid, Good}
-use Rattle.frames.specs.declared.scan.Sight.{Sight}
-use Rattle.frames.specs.declared.scan.Sight.the-variants as s
+use Rattle.frames.specs.Steps.{Start, candidate, candidateBy, searched, CanHold, moved}
+use Rattle.frames.specs.declared.scan.Candidate.the-variants.{Incomplete, NotValid, Good}
+use Rattle.frames.specs.declared.scan.Searched.{Searched}
+use Rattle.frames.specs.declared.scan.Searched.the-variants as s
 use Rattle.frames.proofs.FramingLaws.{decides, enough}
 use Rattle.frames.proofs.FeedInduction.{along-next}
 use Rattle.frames.proofs.KeptLaws.{kept, held-within}
 use Rattle.frames.proofs.CallLaws.{Fits, accepted, feed-keeps}
 use Rattle.frames.proofs.AnswerLaws.{held-count}
-use Rattle.frames.proofs.SeenLaws.{first-is}
+use Rattle.frames.proofs.CandidateLaws.{first-is}
 use Rattle.frames.proofs.StartLaws.{Starts}
 use Rattle.frames.proofs.KindLaws.{KindNext, KindFed, kind-skipping, at-front}
 use Rattle.frames.proofs.CloseLaws.{final-takes, ending-decides, close-is, close-by}
-use Rattle.frames.proofs.SightLaws.{movable, makes}
+use Rattle.frames.proofs.MovedLaws.{can-hold, makes}
 
 -- what is found behind i bytes that were skipped
-abbrev pub beyond : ℕ → Sight → Sight
+abbrev pub beyond : ℕ → Searched → Searched
 beyond i (s.More k) = s.More (i + k)
 beyond i (s.Frame k l t) = s.Frame (i + k) l t
 
-beyond-none : (r : Sight) → beyond 0 r ≡ r
+beyond-none : (r : Searched) → beyond 0 r ≡ r
 beyond-none (s.More k) = let e : 0 + k ≡ k = omega arith in ap s.More e
 beyond-none (s.Frame k l t) = let e : 0 + k ≡ k = omega arith in ap (λ n. s.Frame n l t) e
 
-beyond-one : (i : ℕ) (r : Sight) → beyond i (beyond 1 r) ≡ beyond (i + 1) r
+beyond-one : (i : ℕ) (r : Searched) → beyond i (beyond 1 r) ≡ beyond (i + 1) r
 beyond-one i (s.More k) = let e : i + (1 + k) ≡ i + 1 + k = omega arith in ap s.More e
 beyond-one i (s.Frame k l t) = let e : i + (1 + k) ≡ i + 1 + k = omega arith in ap (λ n. s.Frame n l t) e
 
--- ---- what is decided at the end, by what is seen
+-- ---- what is decided at the end, by what is candidate
 
 module _ {W K : Type 0} where
-  one-more : (i : Item W K) (r : Next W K) → sight (only (skipping i r)) ≡ beyond 1 (sight (only r))
+  one-more : (i : Item W K) (r : Next W K) → searched (only (skipping i r)) ≡ beyond 1 (searched (only r))
   one-more i (Held is h) = let e : suc (length is) ≡ 1 + length is = omega arith in ap s.More e
   one-more i (Found is k f h) = let e : suc (length is) ≡ 1 + length is = omega arith in ap (λ n. s.Frame n (length f) 0) e
 
@@ -57,17 +57,17 @@ module _ {W K : Type 0} where
   abbrev Skips : Decision W K → Type 0
   Skips q = (w : Gave W) × (final q ≡ Skip w)
 
-  skips-cut : (q : Decision W K) (n : ℕ) → Incomplete ≡ seenBy q n → Skips q
+  skips-cut : (q : Decision W K) (n : ℕ) → Incomplete ≡ candidateBy q n → Skips q
   skips-cut (Skip w) n e = (Judged w, refl)
   skips-cut (Take k m) n e = let z : _≡_ {A = ℕ} 0 1 = cc in absurd (omega arith)
   skips-cut Wait n e = (Unfinished, refl)
 
-  skips-bad : (q : Decision W K) (n m : ℕ) → NotValid m ≡ seenBy q n → Skips q
+  skips-bad : (q : Decision W K) (n m : ℕ) → NotValid m ≡ candidateBy q n → Skips q
   skips-bad (Skip w) n m e = (Judged w, refl)
   skips-bad (Take k l) n m e = let z : _≡_ {A = ℕ} 0 1 = cc in absurd (omega arith)
   skips-bad Wait n m e = (Unfinished, refl)
 
-  takes-good : (q : Decision W K) (n m : ℕ) → Good m ≡ seenBy q n → (k : K) × (q ≡ Take k m)
+  takes-good : (q : Decision W K) (n m : ℕ) → Good m ≡ candidateBy q n → (k : K) × (q ≡ Take k m)
   takes-good (Skip w) n m e = let z : _≡_ {A = ℕ} 0 1 = cc in absurd (omega arith)
   takes-good (Take k l) n m e = let z : l ≡ m = cc in (k, ap (Take k) z)
   takes-good Wait n m e = let z : _≡_ {A = ℕ} 0 1 = cc in absurd (omega arith)
@@ -76,10 +76,10 @@ module _ {W K : Type 0} (F : Framing W K) (h : List ℕ) where
   -- the search has skipped i bytes
   pub record Past (i : ℕ) : Type 0 where
     pub within : i ≤ length h
-    pub rest : beyond i (sight (only (next (decide (ending F)) (drop i h)))) ≡ sight (feed (decide (ending F)) h [])
+    pub rest : beyond i (searched (only (next (decide (ending F)) (drop i h)))) ≡ searched (feed (decide (ending F)) h [])
 
   pub past-none : Past 0
-  past-none = record { within = omega arith; rest = beyond-none (sight (only (next (decide (ending F)) h))) }
+  past-none = record { within = omega arith; rest = beyond-none (searched (only (next (decide (ending F)) h))) }
 
   -- at a place where there is a byte
   module _ (i : ℕ) (l : i < length h) where
@@ -101,15 +101,15 @@ module _ {W K : Type 0} (F : Framing W K) (h : List ℕ) where
         record {
           within = omega (arith, l);
           rest =
-              ap (λ k. beyond (i + 1) (sight (only (next d (drop k h))))) (sym m)
-              ∙ sym (beyond-one i (sight (only r)))
-              ∙ ap (beyond i) (sym (one-more (Skipped w (getD h i 0)) r) ∙ ap (λ z. sight (only z)) (sym n))
+              ap (λ k. beyond (i + 1) (searched (only (next d (drop k h))))) (sym m)
+              ∙ sym (beyond-one i (searched (only r)))
+              ∙ ap (beyond i) (sym (one-more (Skipped w (getD h i 0)) r) ∙ ap (λ z. searched (only z)) (sym n))
               ∙ p .rest;
         }
 
   -- all was skipped
-  pub past-all : (i : ℕ) → Past i → length h ≤ i → s.More i ≡ sight (feed (decide (ending F)) h [])
-  past-all i p l = ap s.More (sym (add-zero i)) ∙ ap (λ z. beyond i (sight (only (next (decide (ending F)) z)))) (sym (none-left (drop i h) (length-drop i h ∙ gone))) ∙ p .rest
+  pub past-all : (i : ℕ) → Past i → length h ≤ i → s.More i ≡ searched (feed (decide (ending F)) h [])
+  past-all i p l = ap s.More (sym (add-zero i)) ∙ ap (λ z. beyond i (searched (only (next (decide (ending F)) z)))) (sym (none-left (drop i h) (length-drop i h ∙ gone))) ∙ p .rest
     where
       gone : length h - i ≡ 0
       gone = omega arith
@@ -142,23 +142,23 @@ module _ {W K : Type 0} (F : Framing W K) (h : List ℕ) where
 
       module _ (l : j < length h) where
         -- an unfinished candidate is skipped by one byte
-        pub past-cut : Incomplete ≡ seen F (drop j (h ++ [])) → Past (j + 1)
-        unfolding seen
+        pub past-cut : Incomplete ≡ candidate F (drop j (h ++ [])) → Past (j + 1)
+        unfolding candidate
         past-cut e =
             let q = skips-cut (decide F (drop j h)) (F .need (drop j h)) (rw append-nil at e) in
             past-one j l (q .0) (q .1) past-start
 
         module _ (n : ℕ) where
           -- and so is one that is not valid
-          pub past-bad : NotValid n ≡ seen F (drop j (h ++ [])) → Past (j + 1)
-          unfolding seen
+          pub past-bad : NotValid n ≡ candidate F (drop j (h ++ [])) → Past (j + 1)
+          unfolding candidate
           past-bad e =
               let q = skips-bad (decide F (drop j h)) (F .need (drop j h)) n (rw append-nil at e) in
               past-one j l (q .0) (q .1) past-start
 
           -- a frame is handed out
-          pub past-good : Good n ≡ seen F (drop j (h ++ [])) → s.Frame j n 0 ≡ sight (feed (decide (ending F)) h [])
-          unfolding seen
+          pub past-good : Good n ≡ candidate F (drop j (h ++ [])) → s.Frame j n 0 ≡ searched (feed (decide (ending F)) h [])
+          unfolding candidate
           past-good e =
               let d = decide (ending F) in
               let g = takes-good (decide F (drop j h)) (F .need (drop j h)) n (rw append-nil at e) in
@@ -167,7 +167,7 @@ module _ {W K : Type 0} (F : Framing W K) (h : List ℕ) where
               let u : next d (drop j h) ≡ Found [] (g .0) (take n (getD h j 0 ∷ drop (suc j) h)) (drop n (getD h j 0 ∷ drop (suc j) h)) =
               steps j l ∙ ap (λ q. nextStep (final q) (getD h j 0) (drop (suc j) h) (next d (drop (suc j) h))) (g .1) in
               let m : length (take n (getD h j 0 ∷ drop (suc j) h)) ≡ n = ap (λ z. length (take n z)) (sym c) ∙ length-take-le n (drop j h) (w .1) in
-              (λ k. s.Frame (sym (add-zero j) k) (sym m k) 0) ∙ ap (λ z. beyond j (sight (only z))) (sym u) ∙ past-start .rest
+              (λ k. s.Frame (sym (add-zero j) k) (sym m k) 0) ∙ ap (λ z. beyond j (searched (only z))) (sym u) ∙ past-start .rest
 
 -- ---- the closing call, by what the search finds
 
@@ -194,18 +194,18 @@ module _ (mode : ℕ) where
   kind-only (Held is g) k = tt
   kind-only (Found is i f g) k = k
 
-  module _ (a : List ℕ) (x : Scanner) (o : List ℕ) (f : Fits a x [] o) (r : Sight) (e : r ≡ sight (feed (decide E) (take (x .count - 0) a) [])) where
-    same : r ≡ sight (feed (decide E) (take (x .count) a) [])
+  module _ (a : List ℕ) (x : Scanner) (o : List ℕ) (f : Fits a x [] o) (r : Searched) (e : r ≡ searched (feed (decide E) (take (x .count - 0) a) [])) where
+    same : r ≡ searched (feed (decide E) (take (x .count) a) [])
     same = rw sub-zero at e
 
     held : length (take (x .count) a) ≡ x .count
     held = held-count E a x [] o f
 
     -- the places that the search found are there
-    pub end-movable : Movable (length a) (x .count) 0 r
-    end-movable =
+    pub end-can-hold : CanHold (length a) (x .count) 0 r
+    end-can-hold =
         rw (same, f .area)
-        (movable a x [] o held (feed (decide E) (take (x .count) a) []) (kept (decide E) [] (take (x .count) a))
+        (can-hold a x [] o held (feed (decide E) (take (x .count) a) []) (kept (decide E) [] (take (x .count) a))
         (held-within (decide E) 1029 (omega arith) (never-waits (framingOf mode)) [] (take (x .count) a) (omega (arith, held, f .count))))
 
     -- and moving by them is the call

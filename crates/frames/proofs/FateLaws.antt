@@ -119,15 +119,15 @@ module _ (s : List ℕ) (q : ℕ) where
     abbrev rest : Scanned Why Kind
     rest = scan (decide rtcm) (drop (p + l) s)
 
-    found : scan (decide rtcm) (drop n s) ≡ record { items = x .items ++ (frame ∷ rest .items); held = rest .held }
-    found = x .gives ∙ ap (λ is. record { items = is; held = rest .held }) (append-assoc (x .items) (frame ∷ []) (rest .items))
+    scanned : scan (decide rtcm) (drop n s) ≡ record { items = x .items ++ (frame ∷ rest .items); held = rest .held }
+    scanned = x .gives ∙ ap (λ is. record { items = is; held = rest .held }) (append-assoc (x .items) (frame ∷ []) (rest .items))
 
     size-is : length (cut s (walk.Frame p l)) ≡ l
     size-is = length-take-le l (drop p s) (rw length-drop (omega (arith, x .fits)))
 
     at-frame : p ≤ q → fateFrom n ≡ fateIn p (frame ∷ rest .items) (rest .held) q
     at-frame a =
-        ap (λ r. fateOn n r q) found ∙ past-run (rest .held) q (frame ∷ rest .items) (x .items) n (x .none) (omega (arith, x .count))
+        ap (λ r. fateOn n r q) scanned ∙ past-run (rest .held) q (frame ∷ rest .items) (x .items) n (x .none) (omega (arith, x .count))
         ∙ ap (λ m. fateIn m (frame ∷ rest .items) (rest .held) q) (x .count)
 
     pub frame-there : p ≤ q → q < p + l → InFrame p l ≡ fateFrom n
@@ -137,7 +137,7 @@ module _ (s : List ℕ) (q : ℕ) where
     behind-frame a = sym (at-frame (omega arith) ∙ rw (size-is, le-ltb q (p + l) a))
 
     pub skipped-before : n ≤ q → q < p → IsSkipped n
-    skipped-before a b = skipped-run n (x .items) (frame ∷ rest .items) (rest .held) found (x .none) a (omega (arith, x .count))
+    skipped-before a b = skipped-run n (x .items) (frame ∷ rest .items) (rest .held) scanned (x .none) a (omega (arith, x .count))
 
 -- ---- why a byte is skipped
 

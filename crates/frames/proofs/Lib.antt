@@ -17,11 +17,11 @@ pub mod RtcmLaws
 pub mod ToldLaws
 pub mod Examples
 pub mod SeamLaws
-pub mod SeenLaws
+pub mod CandidateLaws
 pub mod TurnLaws
-pub mod LookLaws
+pub mod FindLaws
 pub mod ManyLaws
-pub mod SightLaws
+pub mod MovedLaws
 pub mod WalkLaws
 pub mod ProgressLaws
 pub mod UbxLaws
@@ -32,7 +32,7 @@ pub mod StartLaws
 pub mod AmongLaws
 pub mod KindLaws
 pub mod SumsLaws
-pub mod UbxSeenLaws
+pub mod UbxCandidateLaws
 pub mod UbxExamples
 pub mod CloseLaws
 pub mod StandLaws

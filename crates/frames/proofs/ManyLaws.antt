@@ -15,10 +15,10 @@ use Rattle.window.proofs.TailLaws.{length-tails, tails-at, level, level-back, s
 use Rattle.window.proofs.FillLaws.{with-room}
 use Rattle.frames.specs.Frame.{dataLength}
 use Rattle.frames.specs.Rtcm.{rtcm}
-use Rattle.frames.specs.Steps.{Tails, seen}
-use Rattle.frames.specs.declared.scan.Seen.the-variants.{NotValid, Good}
+use Rattle.frames.specs.Steps.{Tails, candidate}
+use Rattle.frames.specs.declared.scan.Candidate.the-variants.{NotValid, Good}
 use Rattle.frames.proofs.SeamLaws.{at-left, at-right}
-use Rattle.frames.proofs.SeenLaws.{seen-good, seen-bad}
+use Rattle.frames.proofs.CandidateLaws.{candidate-good, candidate-bad}
 
 -- bytes of the held and of the piece are bytes of both
 pub both-bytes : (h p : List ℕ) → ((k : ℕ) → getD h k 0 < 256) → ((k : ℕ) → getD p k 0 < 256) → Bytes (h ++ p)
@@ -94,12 +94,12 @@ module _ (s q : List ℕ) (base stop : ℕ) (w : Tails s q base stop) (b : Bytes
   pub in-area : i - base + n + 6 < length q
   in-area = omega (arith, w .room)
 
-  pub window-good : getD q (i - base) 0 ≡ getD q (i - base + n + 6) 0 → Good (n + 6) ≡ seen rtcm (drop i s)
+  pub window-good : getD q (i - base) 0 ≡ getD q (i - base + n + 6) 0 → Good (n + 6) ≡ candidate rtcm (drop i s)
   window-good e =
-      seen-good s i d3 n f (crc (take (n + 3) (drop i s))) (field s ((i + n + 3) * 8) 24) fits refl refl
+      candidate-good s i d3 n f (crc (take (n + 3) (drop i s))) (field s ((i + n + 3) * 8) 24) fits refl refl
       (sums-agree s b i n fits (level s i (n + 6) stop reach (sym first-sum ∙ e ∙ second-sum)))
 
-  pub window-bad : (getD q (i - base) 0 ≡ getD q (i - base + n + 6) 0 → ⊥) → NotValid (n + 6) ≡ seen rtcm (drop i s)
+  pub window-bad : (getD q (i - base) 0 ≡ getD q (i - base + n + 6) 0 → ⊥) → NotValid (n + 6) ≡ candidate rtcm (drop i s)
   window-bad e =
-      seen-bad s i d3 n f (crc (take (n + 3) (drop i s))) (field s ((i + n + 3) * 8) 24) fits refl refl
+      candidate-bad s i d3 n f (crc (take (n + 3) (drop i s))) (field s ((i + n + 3) * 8) 24) fits refl refl
       (λ r. e (first-sum ∙ level-back s i (n + 6) stop reach (sums-agree-back s b i n fits r) ∙ sym second-sum))

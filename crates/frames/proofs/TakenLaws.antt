@@ -9,7 +9,7 @@ use Rattle.frames.specs.Scan.{Item, Framed, Handed, after, scan, bytesOf
 use Rattle.frames.specs.Framing.{Framing, decide, Lawful}
 use Rattle.frames.specs.Feed as fed
 use Rattle.frames.specs.Call.{Scanner, heldFrom}
-use Rattle.frames.specs.Offered.{found, Calls, fresh, more, frame}
+use Rattle.frames.specs.Offered.{handedOut, Calls, fresh, more, frame}
 use Rattle.frames.proofs.FramingLaws.{decides}
 use Rattle.frames.proofs.ItemLaws.{bytes-append, handed-append, handed-none, handed-one, skipped-append, length-items}
 use Rattle.frames.proofs.JoinLaws.{join}
@@ -66,7 +66,7 @@ module _ {W K : Type 0} (F : Framing W K) where
           let w = longer r p (g .items) b y (g .keeps .1 .bytes) f (g .held) (omega (arith, g .within)) more in
           rw all (rw (handed-none (heldFrom x) (g .items) (g .keeps .1 .none), g .count, append-nil fs) at w)
 
-      taken-frame : (l i : ℕ) (k : K) → IsFrame F a x p l t j i k y b q → Taken (s ++ take t p) (fs ++ (found i k l q ∷ [])) (n + j) b y
+      taken-frame : (l i : ℕ) (k : K) → IsFrame F a x p l t j i k y b q → Taken (s ++ take t p) (fs ++ (handedOut i k l q ∷ [])) (n + j) b y
       taken-frame l i k g =
           let is : List (Item W K) = g .items ++ (Framed k (take l q) ∷ []) in
           let near : Local (decide F) (take (x .count) a) p (fed.Frame t (g .items) k (take l q) (take (y .count) b)) = subst (Local (decide F) (take (x .count) a) p) (g .gives) (local (decide F) p (take (x .count) a)) in
@@ -76,7 +76,7 @@ module _ {W K : Type 0} (F : Framing W K) where
           let bytes : bytesOf is ++ take (y .count) b ≡ take (x .count) a ++ take t p = simp (bytes-append, append-assoc, append-nil) (g .keeps .1 .bytes) in
           let more : y .taken ≡ x .taken + length (take t p) = sym (ap (λ z. z .taken) (g .left)) ∙ ap (λ n. x .taken + n) (sym size) in
           let w = longer r (take t p) is b y bytes f (g .held) (g .within) more in
-          let one : _≡_ {A = List (Handed K)} (handed (heldFrom x) is) (found i k l q ∷ []) = handed-one (heldFrom x) (g .items) k (take l q) (g .keeps .1 .none) ∙ ap (λ n. found n k l q ∷ []) (g .place) in
+          let one : _≡_ {A = List (Handed K)} (handed (heldFrom x) is) (handedOut i k l q ∷ []) = handed-one (heldFrom x) (g .items) k (take l q) (g .keeps .1 .none) ∙ ap (λ n. handedOut n k l q ∷ []) (g .place) in
           let sum : skippedOf is ≡ j = skipped-append (g .items) (Framed k (take l q) ∷ []) ∙ rw (g .count) (omega arith) in
           rw (one, sum) at w
 

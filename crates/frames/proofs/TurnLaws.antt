@@ -15,9 +15,9 @@ use Rattle.frames.specs.Framing.{Framing, Lawful, decide}
 use Rattle.frames.specs.Feed as fed
 use Rattle.frames.specs.Feed.{Next, Held, Found, skipping, next, Fed, only, past, orTake, feed}
 use Rattle.frames.specs.Steps as steps
-use Rattle.frames.specs.Steps.{sight, onward}
-use Rattle.frames.specs.declared.scan.Sight.{Sight}
-use Rattle.frames.specs.declared.scan.Sight.the-variants.{More, Frame}
+use Rattle.frames.specs.Steps.{searched, onward}
+use Rattle.frames.specs.declared.scan.Searched.{Searched}
+use Rattle.frames.specs.declared.scan.Searched.the-variants.{More, Frame}
 use Rattle.frames.proofs.FramingLaws.{enough, short}
 
 -- m bytes more were taken before
@@ -75,26 +75,26 @@ module _ {W K : Type 0} (d : List ℕ → Decision W K) where
       let ih = feed-all q (g ++ (x ∷ [])) (λ j u. ap d (append-snoc g x (take j q)) ∙ H (suc j) (omega arith)) (ap d (append-snoc g x q) ∙ e) in
       rw u (ap (past []) (ih ∙ ap (λ s. fed.More (length q) [] s) (append-snoc g x q)))
 
-onward-none : (r : Sight) → onward 0 0 r ≡ r
+onward-none : (r : Searched) → onward 0 0 r ≡ r
 onward-none (More n) = rw zero-add
 onward-none (Frame n l u) = simp zero-add
 
-onward-twice : (i t j u : ℕ) (r : Sight) → onward i t (onward j u r) ≡ onward (i + j) (t + u) r
+onward-twice : (i t j u : ℕ) (r : Searched) → onward i t (onward j u r) ≡ onward (i + j) (t + u) r
 onward-twice i t j u (More n) = simp add-assoc
 onward-twice i t j u (Frame n l v) = simp add-assoc
 
 module _ {W K : Type 0} where
-  sight-past : (r : Fed W K) → sight (past [] r) ≡ onward 0 1 (sight r)
-  sight-past (fed.More t is h) = simp zero-add
-  sight-past (fed.Frame t is k f h) = simp (zero-add, one-add)
+  searched-past : (r : Fed W K) → searched (past [] r) ≡ onward 0 1 (searched r)
+  searched-past (fed.More t is h) = simp zero-add
+  searched-past (fed.Frame t is k f h) = simp (zero-add, one-add)
 
-  sight-pasts : (m : ℕ) (r : Fed W K) → sight (pasts m r) ≡ onward 0 m (sight r)
-  sight-pasts zero r = sym (onward-none (sight r))
-  sight-pasts (suc m) r = sight-past (pasts m r) ∙ ap (onward 0 1) (sight-pasts m r) ∙ onward-twice 0 1 0 m (sight r) ∙ ap (λ k. onward 0 k (sight r)) (one-add m)
+  searched-pasts : (m : ℕ) (r : Fed W K) → searched (pasts m r) ≡ onward 0 m (searched r)
+  searched-pasts zero r = sym (onward-none (searched r))
+  searched-pasts (suc m) r = searched-past (pasts m r) ∙ ap (onward 0 1) (searched-pasts m r) ∙ onward-twice 0 1 0 m (searched r) ∙ ap (λ k. onward 0 k (searched r)) (one-add m)
 
-  sight-skipped : (x : Item W K) (r : Fed W K) → sight (skipped x r) ≡ onward 1 0 (sight r)
-  sight-skipped x (fed.More t is h) = simp one-add
-  sight-skipped x (fed.Frame t is k f h) = simp (zero-add, one-add)
+  searched-skipped : (x : Item W K) (r : Fed W K) → searched (skipped x r) ≡ onward 1 0 (searched r)
+  searched-skipped x (fed.More t is h) = simp one-add
+  searched-skipped x (fed.Frame t is k f h) = simp (zero-add, one-add)
 
 module _ {W K : Type 0} (F : Framing W K) (h p : List ℕ) where
   abbrev heldAt : ℕ → ℕ → List ℕ
@@ -104,7 +104,7 @@ module _ {W K : Type 0} (F : Framing W K) (h p : List ℕ) where
   Reached i t = steps.Reached F h p i t
 
   pub reached-start : Reached 0 0
-  reached-start = (omega arith, omega arith, rw append-nil (sym (onward-none (sight (feed (decide F) h p)))))
+  reached-start = (omega arith, omega arith, rw append-nil (sym (onward-none (searched (feed (decide F) h p)))))
 
   length-held : (i t : ℕ) → t ≤ length p → length (heldAt i t) ≡ length h + t - i
   length-held i t l = rw (length-drop, length-append, length-take-le t p l)
@@ -146,12 +146,12 @@ module _ {W K : Type 0} (F : Framing W K) (h p : List ℕ) where
           (rw (need-split j l, held-more i t j (r .0) (r .1), length-held i (t + j) (omega (arith, r .1))) (omega (arith, r .0)))
 
       -- too few bytes: the call takes all, and answers More
-      pub turn-short : length h + length p < i + F .need (drop i (h ++ p)) → More i ≡ sight (feed (decide F) h p)
+      pub turn-short : length h + length p < i + F .need (drop i (h ++ p)) → More i ≡ searched (feed (decide F) h p)
       turn-short k =
           let e : length (drop t p) ≡ length p - t = length-drop t p in
           let f = feed-all (decide F) (drop t p) (heldAt i t) (λ j u. waits-below j (omega arith) (omega (arith, r .1)))
           (ap (decide F) (held-all i t (r .0) (r .1)) ∙ short F (drop i (h ++ p)) (rw (length-drop, length-append) (omega arith))) in
-          sym (r .2 ∙ ap (λ s. onward i t (sight s)) f ∙ ap More (add-zero i))
+          sym (r .2 ∙ ap (λ s. onward i t (searched s)) f ∙ ap More (add-zero i))
 
       -- enough: the call takes so many as are needed, and they decide
       pub turn-more : (n u : ℕ) → n ≡ F .need (drop i (h ++ p)) → i + n ≤ length h + length p → u ≡ max t (i + n - length h) →
@@ -161,9 +161,9 @@ module _ {W K : Type 0} (F : Framing W K) (h p : List ℕ) where
           let w : t + (u - t) ≡ u = omega arith in
           let k : length (drop t p) ≡ length p - t = length-drop t p in
           let f = feed-more (decide F) (u - t) (drop t p) (heldAt i t) (omega (arith, r .1)) (λ j y. waits-below j (omega (arith, r .1)) (omega arith)) in
-          let g : sight (feed (decide F) h p) ≡ onward i u (sight (feed (decide F) (heldAt i u) (drop u p))) =
-          r .2 ∙ ap (λ s. onward i t (sight s)) f ∙ ap (onward i t) (sight-pasts (u - t) (feed (decide F) (heldAt i t ++ take (u - t) (drop t p)) (drop (u - t) (drop t p))))
-          ∙ rw (held-more i t (u - t) (r .0) (r .1), drop-drop (u - t) t p, w) (onward-twice i t 0 (u - t) (sight (feed (decide F) (heldAt i u) (drop u p))) ∙ rw (add-zero i, w)) in
+          let g : searched (feed (decide F) h p) ≡ onward i u (searched (feed (decide F) (heldAt i u) (drop u p))) =
+          r .2 ∙ ap (λ s. onward i t (searched s)) f ∙ ap (onward i t) (searched-pasts (u - t) (feed (decide F) (heldAt i t ++ take (u - t) (drop t p)) (drop (u - t) (drop t p))))
+          ∙ rw (held-more i t (u - t) (r .0) (r .1), drop-drop (u - t) t p, w) (onward-twice i t 0 (u - t) (searched (feed (decide F) (heldAt i u) (drop u p))) ∙ rw (add-zero i, w)) in
           let z : length (heldAt i u) ≡ length h + u - i = length-held i u (omega (arith, r .1)) in
           let q : heldAt i u ++ drop u p ≡ drop i (h ++ p) = held-all i u (omega (arith, r .0)) (omega (arith, r .1)) in
           let y : F .need (heldAt i u ++ drop u p) ≤ length (heldAt i u) = rw (q, ← e, z) (omega arith) in
@@ -184,13 +184,13 @@ module _ {W K : Type 0} (F : Framing W K) (h p : List ℕ) where
           let v : length (heldAt i u) ≡ length h + u - i = length-held i u (b .0 .1) in (
             omega (arith, a .0, b .2),
             b .0 .1,
-            b .0 .2 ∙ ap (λ s. onward i u (sight (feed (decide F) s (drop u p)))) c ∙ ap (λ s. onward i u (sight s)) f
-                ∙ ap (onward i u) (sight-skipped (Skipped w (getD (h ++ take u p) i 0)) (feed (decide F) (heldAt (suc i) u) (drop u p)))
-                ∙ onward-twice i u 1 0 (sight (feed (decide F) (heldAt (suc i) u) (drop u p))) ∙ rw (add-zero u, add-one i),
+            b .0 .2 ∙ ap (λ s. onward i u (searched (feed (decide F) s (drop u p)))) c ∙ ap (λ s. onward i u (searched s)) f
+                ∙ ap (onward i u) (searched-skipped (Skipped w (getD (h ++ take u p) i 0)) (feed (decide F) (heldAt (suc i) u) (drop u p)))
+                ∙ onward-twice i u 1 0 (searched (feed (decide F) (heldAt (suc i) u) (drop u p))) ∙ rw (add-zero u, add-one i),
           )
 
       -- the frame at the place is handed out
-      pub turn-take : (n u : ℕ) (k : K) → Turns n u → F .verdict (drop i (h ++ p)) ≡ Take k n → Frame i n u ≡ sight (feed (decide F) h p)
+      pub turn-take : (n u : ℕ) (k : K) → Turns n u → F .verdict (drop i (h ++ p)) ≡ Take k n → Frame i n u ≡ searched (feed (decide F) h p)
       turn-take n u x a e =
           let b = turn-more n u (a .0) (a .1) (a .2) in
           let o : 1 ≤ F .need (drop i (h ++ p)) = L .needs (drop i (h ++ p)) in
@@ -199,7 +199,7 @@ module _ {W K : Type 0} (F : Framing W K) (h p : List ℕ) where
           let c : heldAt i u ≡ getD (h ++ take u p) i 0 ∷ heldAt (suc i) u = drop-cons (h ++ take u p) i 0 l in
           let f = feed-take (decide F) (getD (h ++ take u p) i 0) (heldAt (suc i) u) (drop u p) x n (ap (decide F) (sym c) ∙ b .1 ∙ e) in
           let z : length (take n (getD (h ++ take u p) i 0 ∷ heldAt (suc i) u)) ≡ n = length-take-le n _ (omega (arith, ap length c, b .2)) in
-          sym (b .0 .2 ∙ ap (λ s. onward i u (sight (feed (decide F) s (drop u p)))) c ∙ ap (λ s. onward i u (sight s)) f ∙ rw (z, add-zero i, add-zero u))
+          sym (b .0 .2 ∙ ap (λ s. onward i u (searched (feed (decide F) s (drop u p)))) c ∙ ap (λ s. onward i u (searched s)) f ∙ rw (z, add-zero i, add-zero u))
 
     -- a run of bytes, each of which is decided by itself and skipped
     pub turn-run : (i t : ℕ) → Reached i t → (k : ℕ) → i + k ≤ length h + length p

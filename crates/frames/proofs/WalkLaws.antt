@@ -13,9 +13,9 @@ use Rattle.frames.specs.Feed as fed
 use Rattle.frames.specs.Feed.{Next, Held, Found, skipping, next, Fed, past, feed}
 use Rattle.frames.specs.Walk as walk
 use Rattle.frames.specs.Walk.{Place, placeOf, nextFrom, framesAt, cut, Walked, last, then}
-use Rattle.frames.specs.Steps.{sight, placeSeen}
-use Rattle.frames.specs.declared.scan.Sight.{Sight}
-use Rattle.frames.specs.declared.scan.Sight.the-variants as sights
+use Rattle.frames.specs.Steps.{searched, placeFrom}
+use Rattle.frames.specs.declared.scan.Searched.{Searched}
+use Rattle.frames.specs.declared.scan.Searched.the-variants as variants
 use Rattle.frames.proofs.FramingLaws.{Whole, Decides, decides}
 use Rattle.frames.proofs.ItemLaws.{frames-append}
 use Rattle.frames.proofs.FeedInduction.{along-next, along-feed}
@@ -38,9 +38,9 @@ module _ {W K : Type 0} (d : List ℕ → Decision W K) where
   on-skipping n i (Held is g) p = ap (λ m. placeOf m (next d (g ++ p))) (omega arith)
   on-skipping n i (Found is k f g) p = ap (λ m. walk.Frame m (length f)) (omega arith)
 
-  seen-past : (n : ℕ) (is : List (Item W K)) (r : Fed W K) → placeSeen n (sight (past is r)) ≡ placeSeen (n + length is) (sight r)
-  seen-past n is (fed.More t js g) = ap walk.Held (omega (arith, length-append is js))
-  seen-past n is (fed.Frame t js k f g) = ap (λ m. walk.Frame m (length f)) (omega (arith, length-append is js))
+  place-past : (n : ℕ) (is : List (Item W K)) (r : Fed W K) → placeFrom n (searched (past is r)) ≡ placeFrom (n + length is) (searched r)
+  place-past n is (fed.More t js g) = ap walk.Held (omega (arith, length-append is js))
+  place-past n is (fed.Frame t js k f g) = ap (λ m. walk.Frame m (length f)) (omega (arith, length-append is js))
 
   module _ (D : Decides d) where
     place-on : (p h : List ℕ) (n : ℕ) → placeOf n (next d (h ++ p)) ≡ placeOn n (next d h) p
@@ -53,13 +53,13 @@ module _ {W K : Type 0} (d : List ℕ → Decision W K) where
         h
 
     -- a call finds the frame that the bytes held and the piece give first
-    pub place-fed : (p h : List ℕ) (n : ℕ) → placeSeen n (sight (feed d h p)) ≡ placeOf n (next d (h ++ p))
+    pub place-fed : (p h : List ℕ) (n : ℕ) → placeFrom n (searched (feed d h p)) ≡ placeOf n (next d (h ++ p))
     place-fed p h =
-        along-feed d (λ h p r. (n : ℕ) → placeSeen n (sight r) ≡ placeOf n (next d (h ++ p)))
+        along-feed d (λ h p r. (n : ℕ) → placeFrom n (searched r) ≡ placeOf n (next d (h ++ p)))
         (λ h g is e n. sym (ap (λ t. placeOf n (next d t)) (append-nil h) ∙ ap (placeOf n) e))
         (λ h p f g is k e n. sym (place-on p h n ∙ ap (λ r. placeOn n r p) e))
         (λ h g is x p r e ih n.
-        seen-past n is r ∙ ih (n + length is) ∙ ap (λ t. placeOf (n + length is) (next d t)) (append-snoc g x p)
+        place-past n is r ∙ ih (n + length is) ∙ ap (λ t. placeOf (n + length is) (next d t)) (append-snoc g x p)
         ∙ sym (place-on (x ∷ p) h n ∙ ap (λ r. placeOn n r (x ∷ p)) e))
         p h
 
@@ -77,12 +77,12 @@ module _ {W K : Type 0} (F : Framing W K) (s : List ℕ) (from : ℕ) where
       none-left (x ∷ l) e = absurd (omega arith)
 
   -- before it, what a search of the bytes from there on tells, in whatever two parts they lie
-  pub tells-across : Lawful F → from ≤ length s → (h p : List ℕ) → h ++ p ≡ drop from s → (r : Sight) → r ≡ sight (feed (decide F) h p) → Accepted (placeSeen from r) ≡ nextFrom F s from
+  pub tells-across : Lawful F → from ≤ length s → (h p : List ℕ) → h ++ p ≡ drop from s → (r : Searched) → r ≡ searched (feed (decide F) h p) → Accepted (placeFrom from r) ≡ nextFrom F s from
   unfolding nextFrom
   tells-across L l h p q r e =
       let m : from ≡ min from (length s) = omega arith in
       ap Accepted
-      (ap (placeSeen from) e ∙ place-fed (decide F) (decides F L) p h from ∙ ap (λ t. placeOf from (next (decide F) t)) q ∙ ap (λ n. placeOf n (next (decide F) (drop from s))) m)
+      (ap (placeFrom from) e ∙ place-fed (decide F) (decides F L) p h from ∙ ap (λ t. placeOf from (next (decide F) t)) q ∙ ap (λ n. placeOf n (next (decide F) (drop from s))) m)
 
 -- ---- call after call, the whole-stream scan
 
@@ -244,10 +244,10 @@ module _ {W K : Type 0} (F : Framing W K) (L : Lawful F) (h p : List ℕ) (from 
   pub past-both : length h + length p ≤ from → Accepted (walk.Held (length h + length p)) ≡ nextFrom F (h ++ p) from
   past-both l = ap (λ n. Accepted (walk.Held n)) (sym (length-append h p)) ∙ past-end F (h ++ p) from (rw length-append l)
 
-  module _ (r : Sight) where
+  module _ (r : Searched) where
     -- the place lies in the second part
     pub tells-right : length h ≤ from → from ≤ length h + length p
-        → r ≡ sight (feed (decide F) [] (take (length p - (from - length h)) (drop (from - length h) p))) → Accepted (placeSeen from r) ≡ nextFrom F (h ++ p) from
+        → r ≡ searched (feed (decide F) [] (take (length p - (from - length h)) (drop (from - length h) p))) → Accepted (placeFrom from r) ≡ nextFrom F (h ++ p) from
     tells-right l m e =
         let q : take (length p - (from - length h)) (drop (from - length h) p) ≡ drop from (h ++ p) =
         take-all (length p - (from - length h)) (drop (from - length h) p) (rw length-drop (omega arith))
@@ -255,26 +255,26 @@ module _ {W K : Type 0} (F : Framing W K) (L : Lawful F) (h p : List ℕ) (from 
         tells-across F (h ++ p) from L (rw length-append m) [] (take (length p - (from - length h)) (drop (from - length h) p)) q r e
 
     -- or in the first
-    pub tells-left : from ≤ length h → r ≡ sight (feed (decide F) (take (length h - from) (drop from h)) p) → Accepted (placeSeen from r) ≡ nextFrom F (h ++ p) from
+    pub tells-left : from ≤ length h → r ≡ searched (feed (decide F) (take (length h - from) (drop from h)) p) → Accepted (placeFrom from r) ≡ nextFrom F (h ++ p) from
     tells-left l e =
         let q : take (length h - from) (drop from h) ++ p ≡ drop from (h ++ p) =
         ap (λ k. k ++ p) (take-all (length h - from) (drop from h) (rw length-drop (omega arith))) ∙ sym (drop-append-le from h p l) in
         tells-across F (h ++ p) from L (rw length-append (omega arith)) (take (length h - from) (drop from h)) p q r e
 
-    module _ (l : from ≤ length h + length p) (e : Accepted (placeSeen from r) ≡ nextFrom F (h ++ p) from) where
+    module _ (l : from ≤ length h + length p) (e : Accepted (placeFrom from r) ≡ nextFrom F (h ++ p) from) where
       within : from ≤ length (h ++ p)
       within = rw length-append l
 
-      module _ (i : ℕ) (q : r ≡ sights.More i) where
+      module _ (i : ℕ) (q : r ≡ variants.More i) where
         pub held-across : Accepted (walk.Held (from + i)) ≡ nextFrom F (h ++ p) from
-        held-across = ap (λ x. Accepted (placeSeen from x)) (sym q) ∙ e
+        held-across = ap (λ x. Accepted (placeFrom from x)) (sym q) ∙ e
 
         pub held-reaches : from + i ≤ length h + length p
         held-reaches = omega (arith, stops F (h ++ p) L from within (from + i) (sym held-across) .fits, length-append h p)
 
-      module _ (i n t : ℕ) (q : r ≡ sights.Frame i n t) where
+      module _ (i n t : ℕ) (q : r ≡ variants.Frame i n t) where
         pub frame-across : Accepted (walk.Frame (from + i) n) ≡ nextFrom F (h ++ p) from
-        frame-across = ap (λ x. Accepted (placeSeen from x)) (sym q) ∙ e
+        frame-across = ap (λ x. Accepted (placeFrom from x)) (sym q) ∙ e
 
         pub frame-reaches : from + i + n ≤ length h + length p
         frame-reaches = omega (arith, finds F (h ++ p) L from within (from + i) n (sym frame-across) .fits, length-append h p)

@@ -22,15 +22,15 @@ pub data Pieces : List (List ℕ) → Type 0 where
   one : {p : List ℕ} {ps : List (List ℕ)} → length p ≤ 65536 → Pieces ps → Pieces (p ∷ ps)
 
 -- a frame as a call tells it: at place i, of kind k, the first l bytes of the output
-abbrev pub found : {K : Type 0} → ℕ → K → ℕ → List ℕ → Handed K
-found i k l q = record { place = i; kind = k; bytes = take l q }
+abbrev pub handedOut : {K : Type 0} → ℕ → K → ℕ → List ℕ → Handed K
+handedOut i k l q = record { place = i; kind = k; bytes = take l q }
 
 module _ {W K : Type 0} (F : Framing W K) where
   -- One piece, offered again and again from its first untaken byte until the answer is More, each time with some output. In order: the held area and the scanner before, the piece, the frames found, the total skipped, the held area and the scanner after.
   pub data Offered : List ℕ → Scanner → List ℕ → List (Handed K) → ℕ → List ℕ → Scanner → Type 0 where
     last : {a p b q : List ℕ} {x y : Scanner} {t s : ℕ} (o : List ℕ) → feedOf F a x p o ≡ outcome (Accepted (More t s y)) (b, q) → Offered a x p [] s b y
     then : {a p b q c : List ℕ} {x y z : Scanner} {t s l i u : ℕ} {k : K} {fs : List (Handed K)} (o : List ℕ)
-        → feedOf F a x p o ≡ outcome (Accepted (Frame l t s i k y)) (b, q) → Offered b y (drop t p) fs u c z → Offered a x p (found i k l q ∷ fs) (s + u) c z
+        → feedOf F a x p o ≡ outcome (Accepted (Frame l t s i k y)) (b, q) → Offered b y (drop t p) fs u c z → Offered a x p (handedOut i k l q ∷ fs) (s + u) c z
 
   -- Piece after piece, each offered until More.
   pub data Offers : List ℕ → Scanner → List (List ℕ) → List (Handed K) → ℕ → List ℕ → Scanner → Type 0 where
@@ -50,4 +50,4 @@ module _ {W K : Type 0} (F : Framing W K) where
     more : {s a b q : List ℕ} {fs : List (Handed K)} {x y : Scanner} {n t j : ℕ} (p o : List ℕ)
         → Calls s fs n a x → feedOf F a x p o ≡ outcome (Accepted (More t j y)) (b, q) → Calls (s ++ take t p) fs (n + j) b y
     frame : {s a b q : List ℕ} {fs : List (Handed K)} {x y : Scanner} {n l t j i : ℕ} {k : K} (p o : List ℕ)
-        → Calls s fs n a x → feedOf F a x p o ≡ outcome (Accepted (Frame l t j i k y)) (b, q) → Calls (s ++ take t p) (fs ++ (found i k l q ∷ [])) (n + j) b y
+        → Calls s fs n a x → feedOf F a x p o ≡ outcome (Accepted (Frame l t j i k y)) (b, q) → Calls (s ++ take t p) (fs ++ (handedOut i k l q ∷ [])) (n + j) b y

@@ -17,10 +17,10 @@ use Rattle.frames.specs.Call.{Scanner, heldFrom, onwards, FedOutcome}
 use Rattle.frames.specs.Rtcm.{Kind, Rtcm, Ubx}
 use Rattle.frames.specs.Walk as walk
 use Rattle.frames.specs.Walk.{Place}
-use Rattle.frames.specs.declared.scan.Seen.{Seen}
-use Rattle.frames.specs.declared.scan.Seen.the-variants.{Incomplete, NotValid, Good}
-use Rattle.frames.specs.declared.scan.Sight.{Sight}
-use Rattle.frames.specs.declared.scan.Sight.the-variants.{More, Frame}
+use Rattle.frames.specs.declared.scan.Candidate.{Candidate}
+use Rattle.frames.specs.declared.scan.Candidate.the-variants.{Incomplete, NotValid, Good}
+use Rattle.frames.specs.declared.scan.Searched.{Searched}
+use Rattle.frames.specs.declared.scan.Searched.the-variants.{More, Frame}
 
 -- the byte that starts a frame of RTCM; the bytes that start one of either kind; those of a mode
 abbrev pub startsRtcm : ℕ → Bool
@@ -44,28 +44,28 @@ unfoldable pub among : ℕ → ℕ → List ℕ → ℕ → Bool
 among x zero s i = eqb (getD s i 0) x
 among x (suc n) s i = among x n s i || eqb (getD s (i + suc n) 0) x
 
--- a decision, and the n bytes that it was made by
-abbrev pub seenBy : {W K : Type 0} → Decision W K → ℕ → Seen
-seenBy (Skip w) n = NotValid n
-seenBy (Take k m) n = Good m
-seenBy Wait n = Incomplete
+-- a decision about a candidate, and the n bytes that it was made by
+abbrev pub candidateBy : {W K : Type 0} → Decision W K → ℕ → Candidate
+candidateBy (Skip w) n = NotValid n
+candidateBy (Take k m) n = Good m
+candidateBy Wait n = Incomplete
 
--- what is decided at the front of s
-unfoldable pub seen : {W K : Type 0} → Framing W K → List ℕ → Seen
-seen F s = seenBy (decide F s) (F .need s)
+-- what is decided of the candidate at the front of s
+unfoldable pub candidate : {W K : Type 0} → Framing W K → List ℕ → Candidate
+candidate F s = candidateBy (decide F s) (F .need s)
 
 -- the numbers of what a call gives: bytes skipped; or bytes skipped, the frame's length, and bytes taken
-abbrev pub sight : {W K : Type 0} → fed.Fed W K → Sight
-sight (fed.More t is h) = More (length is)
-sight (fed.Frame t is k f h) = Frame (length is) (length f) t
+abbrev pub searched : {W K : Type 0} → fed.Fed W K → Searched
+searched (fed.More t is h) = More (length is)
+searched (fed.Frame t is k f h) = Frame (length is) (length f) t
 
 -- what a search found, in bytes whose first stands at place n
-abbrev pub placeSeen : ℕ → Sight → Place
-placeSeen n (More i) = walk.Held (n + i)
-placeSeen n (Frame i l t) = walk.Frame (n + i) l
+abbrev pub placeFrom : ℕ → Searched → Place
+placeFrom n (More i) = walk.Held (n + i)
+placeFrom n (Frame i l t) = walk.Frame (n + i) l
 
 -- i bytes skipped and t bytes taken before
-abbrev pub onward : ℕ → ℕ → Sight → Sight
+abbrev pub onward : ℕ → ℕ → Searched → Searched
 onward i t (More n) = More (i + n)
 onward i t (Frame n l u) = Frame (i + n) l (t + u)
 
@@ -75,7 +75,7 @@ heldAt h p i t = drop i (h ++ take t p)
 
 -- the call on h and p goes on from there
 abbrev pub Reached : {W K : Type 0} → Framing W K → List ℕ → List ℕ → ℕ → ℕ → Type 0
-Reached F h p i t = (i ≤ length h + t) × (t ≤ length p) × (sight (fed.feed (decide F) h p) ≡ onward i t (sight (fed.feed (decide F) (heldAt h p i t) (drop t p))))
+Reached F h p i t = (i ≤ length h + t) × (t ≤ length p) × (searched (fed.feed (decide F) h p) ≡ onward i t (searched (fed.feed (decide F) (heldAt h p i t) (drop t p))))
 
 -- q holds the checksum of the bytes of s from each place of a window up to the window's end
 pub record Tails (s q : List ℕ) (base stop : ℕ) : Type 0 where
@@ -85,9 +85,9 @@ pub record Tails (s q : List ℕ) (base stop : ℕ) : Type 0 where
   pub sums : (k : ℕ) → base + k ≤ stop → getD q k 0 ≡ crc (take (stop - (base + k)) (drop (base + k) s))
 
 -- The places found lie within the n bytes held and the m bytes of the piece, and what is left has room in an area of so many bytes.
-abbrev pub Movable : (area n m : ℕ) → Sight → Type 0
-Movable area n m (More i) = (i ≤ n + m) × (n + m ≤ i + area)
-Movable area n m (Frame i l t) = (t ≤ m) × (i + l ≤ n + t) × (n + t ≤ i + area)
+abbrev pub CanHold : (area n m : ℕ) → Searched → Type 0
+CanHold area n m (More i) = (i ≤ n + m) × (n + m ≤ i + area)
+CanHold area n m (Frame i l t) = (t ≤ m) × (i + l ≤ n + t) × (n + t ≤ i + area)
 
 -- the kind of a frame, by its first byte
 abbrev pub kindAt : ℕ → Kind
@@ -98,7 +98,7 @@ abbrev pub movedFrame : List ℕ → Scanner → ℕ → ℕ → ℕ → List �
 movedFrame a x i l t q g m = outcome (Accepted (call.Frame l t i (heldFrom x + i) (kindAt (getD q 0 0)) (onwards x t m))) (onto g a, q)
 
 -- what a search of the bytes held in the area a with the piece p behind them leads to: what is left is held, and a frame goes to the front of the output o
-abbrev pub moved : List ℕ → Scanner → List ℕ → List ℕ → Sight → FedOutcome Kind
+abbrev pub moved : List ℕ → Scanner → List ℕ → List ℕ → Searched → FedOutcome Kind
 moved a x p o (More i) =
     outcome (Accepted (call.More (length p) i (onwards x (length p) (x .count + length p - i)))) (onto (drop i (take (x .count) a ++ p)) a, o)
 moved a x p o (Frame i l t) = movedFrame a x i l t (onto (take l (drop i (take (x .count) a ++ take t p))) o) (drop (i + l) (take (x .count) a ++ take t p)) (x .count + t - (i + l))

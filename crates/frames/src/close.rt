@@ -55,9 +55,9 @@ pub fn close(held: &mut [u8], scanner: Scanner, out: &mut [u8]) -> Closed
         return Closed::Room(1029);
     }
     let count = scanner.count;
-    let found = scan::look_last(&held[0..count], scanner.mode);
+    let searched = scan::find_at_end(&held[0..count], scanner.mode);
     let none = [0u8; 1];
-    ended(scanner::carry_out(held, scanner, &none[0..0], out, found))
+    ended(scanner::carry_out(held, scanner, &none[0..0], out, searched))
 }
 
 // A call that was fed no piece, as a closing call: More is Done, and makes the scanner fresh.

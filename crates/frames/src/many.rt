@@ -10,10 +10,10 @@ ghost use Rattle.frames.specs.Framing.{decide};
 ghost use Rattle.frames.specs.Feed.{feed};
 ghost use Rattle.frames.specs.Rtcm.{rtcm};
 ghost use Rattle.frames.specs.Modes.{framingOf};
-ghost use Rattle.frames.specs.Steps.{startsIn, seen, sight, Reached, Tails};
+ghost use Rattle.frames.specs.Steps.{startsIn, candidate, searched, Reached, Tails};
 use crate::scan;
-use crate::scan::Seen;
-use crate::scan::Sight;
+use crate::scan::Candidate;
+use crate::scan::Searched;
 use crate::scanner;
 use crate::ubx;
 
@@ -25,9 +25,9 @@ struct Window {
 
 // The search goes on from place `from`, with the bytes up to place `first` taken. The first window is a small one, since a
 // frame may stand near.
-pub(crate) fn look_on(held: &[u8], piece: &[u8], mode: u32, from: usize, first: usize) -> Sight
+pub(crate) fn find_on(held: &[u8], piece: &[u8], mode: u32, from: usize, first: usize) -> Searched
     requires { ⌜ (Reached (framingOf mode) (now held) (now piece) from (first - length (now held))) × (length (now held) ≤ first) × (length (now held) + length (now piece) < 2 ^ 64) ⌝ }
-    ensures { λ r. ⌜ r ≡ sight (feed (decide (framingOf mode)) (now (held .entry)) (now (piece .entry))) ⌝ }
+    ensures { λ r. ⌜ r ≡ searched (feed (decide (framingOf mode)) (now (held .entry)) (now (piece .entry))) ⌝ }
 {
     let h = held.len();
     let all = h + piece.len();
@@ -40,25 +40,25 @@ pub(crate) fn look_on(held: &[u8], piece: &[u8], mode: u32, from: usize, first: 
     while i < all {
         let j = scan::next_start(held, piece, i, mode);
         if all <= j {
-            return Sight::More(j);
+            return Searched::More(j);
         }
         let window = cover(held, piece, base, stop, j, &mut sums);
         base = window.base;
         stop = window.stop;
-        match seen_in(held, piece, base, stop, j, mode, &sums) {
-            Seen::Incomplete => {
-                return Sight::More(j);
+        match candidate_in(held, piece, base, stop, j, mode, &sums) {
+            Candidate::Incomplete => {
+                return Searched::More(j);
             }
-            Seen::Good(n) => {
-                return Sight::Frame(j, n, scan::most(end, j + n) - h);
+            Candidate::Good(n) => {
+                return Searched::Frame(j, n, scan::most(end, j + n) - h);
             }
-            Seen::NotValid(n) => {
+            Candidate::NotValid(n) => {
                 end = scan::most(end, j + n);
                 i = j + 1;
             }
         }
     }
-    Sight::More(i)
+    Searched::More(i)
 }
 
 // The window that serves a candidate at place i: the one at hand, if it reaches as far as a candidate can; else a new one
@@ -90,7 +90,7 @@ fn open(held: &[u8], piece: &[u8], i: usize, size: usize, sums: &mut [u32]) -> W
 }
 
 // The check of the start byte at place i: of a D3 by the window, of a B5 by its own sums.
-fn seen_in(
+fn candidate_in(
     held: &[u8],
     piece: &[u8],
     base: usize,
@@ -98,9 +98,9 @@ fn seen_in(
     i: usize,
     mode: u32,
     sums: &[u32],
-) -> Seen
+) -> Candidate
     requires { ⌜ (i < length (now held) + length (now piece)) × (length (now held) + length (now piece) < 2 ^ 64) × (startsIn mode (getD (now held ++ now piece) i 0) ≡ true) × (base ≤ i) × (i + min (length (now held) + length (now piece) - i) 1029 ≤ stop) × Tails (now held ++ now piece) (now sums) base stop ⌝ }
-    ensures { λ r. ⌜ r ≡ seen (framingOf mode) (drop i (now (held .entry) ++ now (piece .entry))) ⌝ }
+    ensures { λ r. ⌜ r ≡ candidate (framingOf mode) (drop i (now (held .entry) ++ now (piece .entry))) ⌝ }
 {
     if mode == 0 {
         return rtcm_in(held, piece, base, stop, i, sums);
@@ -112,21 +112,21 @@ fn seen_in(
 }
 
 // The frame check of the D3 at place i, by the window.
-fn rtcm_in(held: &[u8], piece: &[u8], base: usize, stop: usize, i: usize, sums: &[u32]) -> Seen
+fn rtcm_in(held: &[u8], piece: &[u8], base: usize, stop: usize, i: usize, sums: &[u32]) -> Candidate
     requires { ⌜ (i < length (now held) + length (now piece)) × (length (now held) + length (now piece) < 2 ^ 64) × (getD (now held ++ now piece) i 0 ≡ 0xD3) × (base ≤ i) × (i + min (length (now held) + length (now piece) - i) 1029 ≤ stop) × Tails (now held ++ now piece) (now sums) base stop ⌝ }
-    ensures { λ r. ⌜ r ≡ seen rtcm (drop i (now (held .entry) ++ now (piece .entry))) ⌝ }
+    ensures { λ r. ⌜ r ≡ candidate rtcm (drop i (now (held .entry) ++ now (piece .entry))) ⌝ }
 {
     let left = held.len() + piece.len() - i;
     if left < 6 {
-        return Seen::Incomplete;
+        return Candidate::Incomplete;
     }
     let n = (scan::three_at(held, piece, i) % 1024) as usize;
     if left < n + 6 {
-        return Seen::Incomplete;
+        return Candidate::Incomplete;
     }
     let k = i - base;
     if sums[k] == sums[k + n + 6] {
-        return Seen::Good(n + 6);
+        return Candidate::Good(n + 6);
     }
-    Seen::NotValid(n + 6)
+    Candidate::NotValid(n + 6)
 }

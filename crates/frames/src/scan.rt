@@ -16,7 +16,7 @@ ghost use Rattle.frames.specs.Modes.{framingOf};
 ghost use Rattle.frames.specs.Close.{ending};
 ghost use Rattle.frames.specs.Walk.{nextFrom};
 ghost use Rattle.frames.specs.Answers.{toldNext};
-ghost use Rattle.frames.specs.Steps.{startsRtcm, startsEither, startsIn, Start, seen, sight, placeSeen, among};
+ghost use Rattle.frames.specs.Steps.{startsRtcm, startsEither, startsIn, Start, candidate, searched, placeFrom, among};
 use crate::frame;
 use crate::many;
 use crate::ubx;
@@ -43,9 +43,9 @@ pub fn next_across(held: &[u8], piece: &[u8], from: usize, mode: u32) -> Next
     if all <= from {
         return Next::Held(all);
     }
-    match look_from(held, piece, from, mode) {
-        Sight::More(i) => Next::Held(from + i),
-        Sight::Frame(i, length, _) => Next::Frame {
+    match find_from(held, piece, from, mode) {
+        Searched::More(i) => Next::Held(from + i),
+        Searched::Frame(i, length, _) => Next::Frame {
             place: from + i,
             length,
         },
@@ -53,29 +53,29 @@ pub fn next_across(held: &[u8], piece: &[u8], from: usize, mode: u32) -> Next
 }
 
 // What a search finds from a place on, which lies in the held bytes or in the piece.
-fn look_from(held: &[u8], piece: &[u8], from: usize, mode: u32) -> Sight
+fn find_from(held: &[u8], piece: &[u8], from: usize, mode: u32) -> Searched
     requires { ⌜ from ≤ length (now held) + length (now piece) ⌝ }
-    ensures { λ r. ⌜ Accepted (placeSeen from r) ≡ nextFrom (framingOf mode) (now (held .entry) ++ now (piece .entry)) from ⌝ }
+    ensures { λ r. ⌜ Accepted (placeFrom from r) ≡ nextFrom (framingOf mode) (now (held .entry) ++ now (piece .entry)) from ⌝ }
 {
     let h = held.len();
     if h <= from {
-        return look(&held[0..0], &piece[from - h..piece.len()], mode);
+        return find_frame(&held[0..0], &piece[from - h..piece.len()], mode);
     }
-    look(&held[from..h], piece, mode)
+    find_frame(&held[from..h], piece, mode)
 }
 
 // What a search finds. More: no frame, and so many bytes to skip. Frame: the bytes to skip before it, its length, and the
 // bytes of the piece that were needed.
-pub(crate) enum Sight {
+pub(crate) enum Searched {
     More(usize),
     Frame(usize, usize, usize),
 }
 
 // The first frame of the held bytes with the piece behind them: in mode 0 of RTCM, else of either kind. Each candidate's
 // sum is taken by itself, until those that failed are many for the way that was made; from there on a window decides.
-pub(crate) fn look(held: &[u8], piece: &[u8], mode: u32) -> Sight
+pub(crate) fn find_frame(held: &[u8], piece: &[u8], mode: u32) -> Searched
     requires { ⌜ length (now held) + length (now piece) < 2 ^ 64 ⌝ }
-    ensures { λ r. ⌜ r ≡ sight (feed (decide (framingOf mode)) (now (held .entry)) (now (piece .entry))) ⌝ }
+    ensures { λ r. ⌜ r ≡ searched (feed (decide (framingOf mode)) (now (held .entry)) (now (piece .entry))) ⌝ }
 {
     let h = held.len();
     let all = h + piece.len();
@@ -84,54 +84,54 @@ pub(crate) fn look(held: &[u8], piece: &[u8], mode: u32) -> Sight
     let mut failed: usize = 0;
     while i < all {
         if 64 + i / 64 < failed {
-            return many::look_on(held, piece, mode, i, end);
+            return many::find_on(held, piece, mode, i, end);
         }
         let j = next_start(held, piece, i, mode);
         if all <= j {
-            return Sight::More(j);
+            return Searched::More(j);
         }
-        match seen_at(held, piece, j, mode) {
-            Seen::Incomplete => {
-                return Sight::More(j);
+        match candidate_at(held, piece, j, mode) {
+            Candidate::Incomplete => {
+                return Searched::More(j);
             }
-            Seen::Good(n) => {
-                return Sight::Frame(j, n, most(end, j + n) - h);
+            Candidate::Good(n) => {
+                return Searched::Frame(j, n, most(end, j + n) - h);
             }
-            Seen::NotValid(n) => {
+            Candidate::NotValid(n) => {
                 end = most(end, j + n);
                 failed += 1;
                 i = j + 1;
             }
         }
     }
-    Sight::More(i)
+    Searched::More(i)
 }
 
 // The first frame of the bytes held at the end of a recording, where nothing waits: an unfinished candidate is skipped by
 // one byte.
-pub(crate) fn look_last(held: &[u8], mode: u32) -> Sight
-    ensures { λ r. ⌜ r ≡ sight (feed (decide (ending (framingOf mode))) (now (held .entry)) []) ⌝ }
+pub(crate) fn find_at_end(held: &[u8], mode: u32) -> Searched
+    ensures { λ r. ⌜ r ≡ searched (feed (decide (ending (framingOf mode))) (now (held .entry)) []) ⌝ }
 {
     let all = held.len();
     let mut i: usize = 0;
     while i < all {
         let at = next_in(held, i, mode);
         if all <= at {
-            return Sight::More(at);
+            return Searched::More(at);
         }
-        match seen_at(held, &held[0..0], at, mode) {
-            Seen::Good(n) => {
-                return Sight::Frame(at, n, 0);
+        match candidate_at(held, &held[0..0], at, mode) {
+            Candidate::Good(n) => {
+                return Searched::Frame(at, n, 0);
             }
-            Seen::NotValid(_) => {
+            Candidate::NotValid(_) => {
                 i = at + 1;
             }
-            Seen::Incomplete => {
+            Candidate::Incomplete => {
                 i = at + 1;
             }
         }
     }
-    Sight::More(i)
+    Searched::More(i)
 }
 
 // The place of the first byte from place i on that starts a frame in the mode, or the end.
@@ -256,17 +256,17 @@ fn has(part: &[u8], i: usize, x: u8) -> bool
         | (part[i + 15] == x)
 }
 
-// What a check says of a start byte: incomplete; or not valid, or good, by so many bytes.
-pub(crate) enum Seen {
+// What a check says of the candidate at a start byte: incomplete; or not valid, or good, by so many bytes.
+pub(crate) enum Candidate {
     Incomplete,
     NotValid(usize),
     Good(usize),
 }
 
 // The check of the start byte at place i: in mode 0 that of RTCM, else that of its kind.
-fn seen_at(held: &[u8], piece: &[u8], i: usize, mode: u32) -> Seen
+fn candidate_at(held: &[u8], piece: &[u8], i: usize, mode: u32) -> Candidate
     requires { ⌜ (i < length (now held) + length (now piece)) × (length (now held) + length (now piece) < 2 ^ 64) × (startsIn mode (getD (now held ++ now piece) i 0) ≡ true) ⌝ }
-    ensures { λ r. ⌜ r ≡ seen (framingOf mode) (drop i (now (held .entry) ++ now (piece .entry))) ⌝ }
+    ensures { λ r. ⌜ r ≡ candidate (framingOf mode) (drop i (now (held .entry) ++ now (piece .entry))) ⌝ }
 {
     if mode == 0 {
         return rtcm_at(held, piece, i);
@@ -278,23 +278,23 @@ fn seen_at(held: &[u8], piece: &[u8], i: usize, mode: u32) -> Seen
 }
 
 // The frame check of the D3 at place i. No sum is taken before all bytes that the length asks for are there.
-fn rtcm_at(held: &[u8], piece: &[u8], i: usize) -> Seen
+fn rtcm_at(held: &[u8], piece: &[u8], i: usize) -> Candidate
     requires { ⌜ (i < length (now held) + length (now piece)) × (length (now held) + length (now piece) < 2 ^ 64) × (getD (now held ++ now piece) i 0 ≡ 0xD3) ⌝ }
-    ensures { λ r. ⌜ r ≡ seen rtcm (drop i (now (held .entry) ++ now (piece .entry))) ⌝ }
+    ensures { λ r. ⌜ r ≡ candidate rtcm (drop i (now (held .entry) ++ now (piece .entry))) ⌝ }
 {
     let left = held.len() + piece.len() - i;
     if left < 6 {
-        return Seen::Incomplete;
+        return Candidate::Incomplete;
     }
     let n = (three_at(held, piece, i) % 1024) as usize;
     if left < n + 6 {
-        return Seen::Incomplete;
+        return Candidate::Incomplete;
     }
     let e = i + n + 3;
     if sum_of(held, piece, i, n + 3) == three_at(held, piece, e) {
-        return Seen::Good(n + 6);
+        return Candidate::Good(n + 6);
     }
-    Seen::NotValid(n + 6)
+    Candidate::NotValid(n + 6)
 }
 
 // The checksum of n bytes from place i on, taken where they lie.

@@ -8,7 +8,7 @@ ghost use Rattle.bits.specs.Outcome.{outcome};
 ghost use Rattle.frames.specs.Modes.{framingOf};
 ghost use Rattle.frames.specs.Call.{fresh, afresh, onwards, feedOf};
 ghost use Rattle.frames.specs.Answers.{known, toldKind, toldFed};
-ghost use Rattle.frames.specs.Steps.{kindAt, moved, Movable};
+ghost use Rattle.frames.specs.Steps.{kindAt, moved, CanHold};
 use crate::frame;
 use crate::scan;
 
@@ -101,8 +101,8 @@ pub fn feed(held: &mut [u8], scanner: Scanner, piece: &[u8], out: &mut [u8]) -> 
         return Fed::Room(1029);
     }
     let count = scanner.count;
-    let found = scan::look(&held[0..count], piece, scanner.mode);
-    carry_out(held, scanner, piece, out, found)
+    let searched = scan::find_frame(&held[0..count], piece, scanner.mode);
+    carry_out(held, scanner, piece, out, searched)
 }
 
 // Does what a search found: what stands behind the bytes to skip is held; or the frame there is handed out, and what
@@ -112,14 +112,14 @@ pub(crate) fn carry_out(
     scanner: Scanner,
     piece: &[u8],
     out: &mut [u8],
-    found: scan::Sight,
+    searched: scan::Searched,
 ) -> Fed
-    requires { ⌜ (scanner .count ≤ length (now held)) × (length (now held) ≤ length (now out)) × (1 ≤ length (now out)) × (scanner .count ≤ scanner .taken) × (scanner .taken + length (now piece) < 2 ^ 64) × Movable (length (now held)) (scanner .count) (length (now piece)) found ⌝ }
-    ensures { λ r. ⌜ outcome (toldFed r) (now (held .exit), now (out .exit)) ≡ moved (now (held .entry)) (known scanner) (now (piece .entry)) (now (out .entry)) found ⌝ }
+    requires { ⌜ (scanner .count ≤ length (now held)) × (length (now held) ≤ length (now out)) × (1 ≤ length (now out)) × (scanner .count ≤ scanner .taken) × (scanner .taken + length (now piece) < 2 ^ 64) × CanHold (length (now held)) (scanner .count) (length (now piece)) searched ⌝ }
+    ensures { λ r. ⌜ outcome (toldFed r) (now (held .exit), now (out .exit)) ≡ moved (now (held .entry)) (known scanner) (now (piece .entry)) (now (out .entry)) searched ⌝ }
 {
     let count = scanner.count;
-    match found {
-        scan::Sight::More(i) => {
+    match searched {
+        scan::Searched::More(i) => {
             let n = slide(held, count, piece, i);
             Fed::More {
                 taken: piece.len(),
@@ -127,10 +127,10 @@ pub(crate) fn carry_out(
                 scanner: onwards(scanner, piece.len(), n),
             }
         }
-        scan::Sight::Frame(skipped, length, taken) => {
-            let looked = &piece[0..taken];
-            gather(out, &held[0..count], looked, skipped, length);
-            let n = slide(held, count, looked, skipped + length);
+        scan::Searched::Frame(skipped, length, taken) => {
+            let front = &piece[0..taken];
+            gather(out, &held[0..count], front, skipped, length);
+            let n = slide(held, count, front, skipped + length);
             let place = scanner.taken - count as u64 + skipped as u64;
             Fed::Frame {
                 length,

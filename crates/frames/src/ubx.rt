@@ -5,10 +5,10 @@ ghost use mathlib.Core.List.{_++_};
 ghost use Prim.Native.Nat.{_+_, _^_, _≤_, _<_};
 ghost use lib.ListN.{length, getD, take, drop};
 ghost use Rattle.frames.specs.Ubx.{ubx, sums, sumsFrom};
-ghost use Rattle.frames.specs.Steps.{seen};
+ghost use Rattle.frames.specs.Steps.{candidate};
 use crate::frame;
 use crate::scan;
-use crate::scan::Seen;
+use crate::scan::Candidate;
 
 // The two running sums, each modulo 256: of the bytes, and of the first sum after each byte.
 pub(crate) struct Sums {
@@ -18,37 +18,37 @@ pub(crate) struct Sums {
 
 // The check of the B5 at place i. A candidate is given up by the second byte, by the length or by the sums, as soon as
 // these are there.
-pub(crate) fn ubx_at(held: &[u8], piece: &[u8], i: usize) -> Seen
+pub(crate) fn ubx_at(held: &[u8], piece: &[u8], i: usize) -> Candidate
     requires { ⌜ (i < length (now held) + length (now piece)) × (length (now held) + length (now piece) < 2 ^ 64) × (getD (now held ++ now piece) i 0 ≡ 0xB5) ⌝ }
-    ensures { λ r. ⌜ r ≡ seen ubx (drop i (now (held .entry) ++ now (piece .entry))) ⌝ }
+    ensures { λ r. ⌜ r ≡ candidate ubx (drop i (now (held .entry) ++ now (piece .entry))) ⌝ }
 {
     let left = held.len() + piece.len() - i;
     if left < 2 {
-        return Seen::Incomplete;
+        return Candidate::Incomplete;
     }
     if scan::byte_at(held, piece, i + 1) != 0x62 {
-        return Seen::NotValid(2);
+        return Candidate::NotValid(2);
     }
     if left < 6 {
-        return Seen::Incomplete;
+        return Candidate::Incomplete;
     }
     let low = scan::byte_at(held, piece, i + 4);
     let high = scan::byte_at(held, piece, i + 5);
     let n = (low + high * 256) as usize;
     if 1021 < n {
-        return Seen::NotValid(6);
+        return Candidate::NotValid(6);
     }
     if left < n + 8 {
-        return Seen::Incomplete;
+        return Candidate::Incomplete;
     }
     let sums = sums_of(held, piece, i + 2, n + 4);
     if scan::byte_at(held, piece, i + n + 6) != sums.first {
-        return Seen::NotValid(n + 8);
+        return Candidate::NotValid(n + 8);
     }
     if scan::byte_at(held, piece, i + n + 7) != sums.second {
-        return Seen::NotValid(n + 8);
+        return Candidate::NotValid(n + 8);
     }
-    Seen::Good(n + 8)
+    Candidate::Good(n + 8)
 }
 
 // The sums of n bytes from place i on, taken where they lie.

@@ -17,7 +17,7 @@ use Rattle.messages.specs.Writer.{fine, firstFault, firstRepeat, writeRu
 use Rattle.messages.specs.Write1059.{fault1059, samePair, crowded, present, fields1059, refusedRecords1059, refused1059, write1059}
 use Rattle.messages.specs.Layout1059.{ofSatellite}
 use Rattle.messages.specs.StepsWrite1059.{satellitesFrom, refusedFaultless, writeFaultless, writeKnown, Faultless, Linked, crowdedIn, presentIn}
-use Rattle.formats.specs.Put.{Fits, Did}
+use Rattle.formats.specs.Put.{RoomFor, IsPut}
 use Rattle.formats.proofs.PutLaws.{Left, left-all, left-as, left-fits, left-put, left-none}
 use Rattle.messages.proofs.WriterLaws.{run-refused, run-put, run-room}
 use Rattle.messages.proofs.LinkLaws.{count-records}
@@ -104,17 +104,17 @@ module _ (s : List ℕ) (p : ℕ) (sats gs : List ℕ) (zs : List ℤ) (d : Faul
                 ∙ run-room (refusedFaultless (records1059 sats gs zs)) s p (fields1059 (records1059 sats gs zs)) clear (omega (arith, block))
 
             module _ (few : length s ≤ 1023) (o : p + (6 + m * 11 + length sats * 19) ≤ length s * 8) where
-              whole : Fits s p (fields1059 (records1059 sats gs zs))
+              whole : RoomFor s p (fields1059 (records1059 sats gs zs))
               whole = record { few = few; within = omega (arith, block) }
 
-              pub sound-first : Fits s p (bits 6 m ∷ [])
+              pub sound-first : RoomFor s p (bits 6 m ∷ [])
               sound-first = left-fits (bits 6 m ∷ []) (satellitesFrom 0 64 (records1059 sats gs zs)) begun whole
 
-              module _ (t : List ℕ) (q : ℕ) (did : Did s p (bits 6 m ∷ []) t q) where
+              module _ (t : List ℕ) (q : ℕ) (did : IsPut s p (bits 6 m ∷ []) t q) where
                 rest : Left s p (fields1059 (records1059 sats gs zs)) t q (satellitesFrom 0 64 (records1059 sats gs zs) ++ [])
                 rest = left-as (sym (append-nil (satellitesFrom 0 64 (records1059 sats gs zs)))) (left-put (bits 6 m ∷ []) (satellitesFrom 0 64 (records1059 sats gs zs)) begun did)
 
-                pub sound-rest : Fits t q (satellitesFrom 0 64 (records1059 sats gs zs))
+                pub sound-rest : RoomFor t q (satellitesFrom 0 64 (records1059 sats gs zs))
                 sound-rest = left-fits (satellitesFrom 0 64 (records1059 sats gs zs)) [] rest whole
 
                 pub sound-put : (u : List ℕ) → u ≡ putAll t q (satellitesFrom 0 64 (records1059 sats gs zs))

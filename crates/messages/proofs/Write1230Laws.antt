@@ -11,7 +11,7 @@ use lib.IntN.{ℤ}
 use Rattle.bits.specs.Told.{Accepted, Refused, andThen, size, signal, duplicate, room}
 use Rattle.bits.specs.Outcome.{outcome}
 use Rattle.bits.specs.Fields.{putAll}
-use Rattle.formats.specs.Put.{Fits}
+use Rattle.formats.specs.Put.{RoomFor}
 use Rattle.messages.specs.Records.{records1230}
 use Rattle.messages.specs.Writer.{fine, firstFault, firstRepeat}
 use Rattle.messages.specs.Write1230.{fault1230, fields1230, refused1230, write1230}
@@ -71,7 +71,7 @@ module _ (s : List ℕ) (p : ℕ) (gs : List ℕ) (zs : List ℤ) where
                 ap (λ (k : ℕ). outcome (room k) s) (sym b) ∙ run-room (refused1230 (length s) gs zs) s p (fields1230 (records1230 gs zs)) nothing (omega (arith, b))
 
             module _ (n : p + (4 + length gs * 16) ≤ length s * 8) where
-              pub block-fits : Fits s p (fields1230 (records1230 gs zs))
+              pub block-fits : RoomFor s p (fields1230 (records1230 gs zs))
               block-fits = record { few = h; within = omega (arith, bits-is gs zs l known) }
 
               pub block-put : (t : List ℕ) → t ≡ putAll s p (fields1230 (records1230 gs zs)) → outcome (Accepted (p + (4 + length gs * 16))) t ≡ write1230 s p gs zs

@@ -7,7 +7,7 @@ ghost use Prim.Native.Nat.{_+_, _*_, _^_, _≤_, _<_};
 ghost use lib.Dec.{leb};
 ghost use Rattle.bits.specs.Signed.{fitsTwos, twosBits};
 ghost use Rattle.bits.specs.Fields.{bits};
-ghost use Rattle.formats.specs.Put.{Fits, Did};
+ghost use Rattle.formats.specs.Put.{RoomFor, IsPut};
 use bits::field;
 use bits::field::Written;
 
@@ -25,8 +25,8 @@ pub(crate) fn has_room(length: usize, start: usize, bits: usize) -> bool
 
 // Writes an unsigned number.
 pub(crate) fn unsigned(bytes: &mut [u8], at: usize, width: usize, value: u64) -> usize
-    requires { ⌜ Fits (now bytes) at (bits width value ∷ []) × (1 ≤ width) × (width ≤ 64) × (value < 2 ^ width) ⌝ }
-    ensures { λ r. ⌜ Did (now (bytes .entry)) at (bits width value ∷ []) (now (bytes .exit)) r ⌝ }
+    requires { ⌜ RoomFor (now bytes) at (bits width value ∷ []) × (1 ≤ width) × (width ≤ 64) × (value < 2 ^ width) ⌝ }
+    ensures { λ r. ⌜ IsPut (now (bytes .entry)) at (bits width value ∷ []) (now (bytes .exit)) r ⌝ }
 {
     let Written::End(next) = field::write_unsigned(bytes, at, width, value) else {
         return at;
@@ -36,8 +36,8 @@ pub(crate) fn unsigned(bytes: &mut [u8], at: usize, width: usize, value: u64) ->
 
 // Writes a number in two's complement.
 pub(crate) fn twos(bytes: &mut [u8], at: usize, width: usize, value: i16) -> usize
-    requires { ⌜ Fits (now bytes) at (bits width (twosBits width value) ∷ []) × (1 ≤ width) × (width ≤ 64) × (fitsTwos width value ≡ true) ⌝ }
-    ensures { λ r. ⌜ Did (now (bytes .entry)) at (bits width (twosBits width value) ∷ []) (now (bytes .exit)) r ⌝ }
+    requires { ⌜ RoomFor (now bytes) at (bits width (twosBits width value) ∷ []) × (1 ≤ width) × (width ≤ 64) × (fitsTwos width value ≡ true) ⌝ }
+    ensures { λ r. ⌜ IsPut (now (bytes .entry)) at (bits width (twosBits width value) ∷ []) (now (bytes .exit)) r ⌝ }
 {
     let Written::End(next) = field::write_twos(bytes, at, width, value as i64) else {
         return at;

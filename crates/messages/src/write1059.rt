@@ -11,7 +11,7 @@ ghost use Rattle.bits.specs.Signed.{fitsTwos, twosBits};
 ghost use Rattle.bits.specs.Outcome.{outcome};
 ghost use Rattle.bits.specs.Fields.{bits, putAll};
 ghost use Rattle.messages.specs.Answers.{toldBlock};
-ghost use Rattle.formats.specs.Put.{Fits, Did};
+ghost use Rattle.formats.specs.Put.{RoomFor, IsPut};
 ghost use Rattle.messages.specs.Records.{records1059};
 ghost use Rattle.messages.specs.Writer.{fine, firstFault, firstRepeat};
 ghost use Rattle.messages.specs.Write1059.{samePair, write1059};
@@ -232,7 +232,7 @@ fn put_satellites(
     signals: &[u8],
     biases: &[i16],
 )
-    requires { ⌜ Fits (now bytes) start (satellitesFrom 0 64 (records1059 (now satellites) (now signals) (now biases))) × Faultless (now satellites) (now signals) (now biases) × Linked (now satellites) (now heads) (now links) (now counts) 0 × ((a : ℕ) → a < 64 → getD (now counts) a 0 < 32) ⌝ }
+    requires { ⌜ RoomFor (now bytes) start (satellitesFrom 0 64 (records1059 (now satellites) (now signals) (now biases))) × Faultless (now satellites) (now signals) (now biases) × Linked (now satellites) (now heads) (now links) (now counts) 0 × ((a : ℕ) → a < 64 → getD (now counts) a 0 < 32) ⌝ }
     ensures { λ r. ⌜ now (bytes .exit) ≡ putAll (now (bytes .entry)) start (satellitesFrom 0 64 (records1059 (now (satellites .entry)) (now (signals .entry)) (now (biases .entry)))) ⌝ }
 {
     let mut at = start;
@@ -266,8 +266,8 @@ fn put_satellite(
     signals: &[u8],
     biases: &[i16],
 ) -> usize
-    requires { ⌜ Fits (now bytes) start (satelliteFields a (ofSatellite a (records1059 (now satellites) (now signals) (now biases)))) × Faultless (now satellites) (now signals) (now biases) × Links (now satellites) (now links) 0 × (a < 64) × (count ≡ countOf a (now satellites)) × (count < 32) × (head ≡ nextOf (now satellites) a 0) ⌝ }
-    ensures { λ r. ⌜ Did (now (bytes .entry)) start (satelliteFields a (ofSatellite a (records1059 (now (satellites .entry)) (now (signals .entry)) (now (biases .entry))))) (now (bytes .exit)) r ⌝ }
+    requires { ⌜ RoomFor (now bytes) start (satelliteFields a (ofSatellite a (records1059 (now satellites) (now signals) (now biases)))) × Faultless (now satellites) (now signals) (now biases) × Links (now satellites) (now links) 0 × (a < 64) × (count ≡ countOf a (now satellites)) × (count < 32) × (head ≡ nextOf (now satellites) a 0) ⌝ }
+    ensures { λ r. ⌜ IsPut (now (bytes .entry)) start (satelliteFields a (ofSatellite a (records1059 (now (satellites .entry)) (now (signals .entry)) (now (biases .entry))))) (now (bytes .exit)) r ⌝ }
 {
     if count == 0 {
         return start;
@@ -284,8 +284,8 @@ fn put_satellite(
 
 // One bias: its signal and its number. The answer is the bit behind it.
 fn put_bias(bytes: &mut [u8], at: usize, signal: u8, bias: i16) -> usize
-    requires { ⌜ Fits (now bytes) at (bits 5 signal ∷ bits 14 (twosBits 14 bias) ∷ []) × (signal < 32) × (fitsTwos 14 bias ≡ true) ⌝ }
-    ensures { λ r. ⌜ Did (now (bytes .entry)) at (bits 5 signal ∷ bits 14 (twosBits 14 bias) ∷ []) (now (bytes .exit)) r ⌝ }
+    requires { ⌜ RoomFor (now bytes) at (bits 5 signal ∷ bits 14 (twosBits 14 bias) ∷ []) × (signal < 32) × (fitsTwos 14 bias ≡ true) ⌝ }
+    ensures { λ r. ⌜ IsPut (now (bytes .entry)) at (bits 5 signal ∷ bits 14 (twosBits 14 bias) ∷ []) (now (bytes .exit)) r ⌝ }
 {
     let p = put::unsigned(bytes, at, 5, signal as u64);
     put::twos(bytes, p, 14, bias)

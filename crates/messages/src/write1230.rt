@@ -9,7 +9,7 @@ ghost use Rattle.bits.specs.Told.{signal as signalAt, duplicate};
 ghost use Rattle.bits.specs.Outcome.{outcome};
 ghost use Rattle.bits.specs.Fields.{putAll};
 ghost use Rattle.messages.specs.Answers.{toldBlock};
-ghost use Rattle.formats.specs.Put.{Fits, Did};
+ghost use Rattle.formats.specs.Put.{RoomFor, IsPut};
 ghost use Rattle.messages.specs.Records.{records1230};
 ghost use Rattle.messages.specs.Layout1230.{maskSignals, ofSignal};
 ghost use Rattle.messages.specs.Writer.{fine, firstFault, firstRepeat};
@@ -101,7 +101,7 @@ fn is_in(signal: u8, signals: &[u8]) -> bool
 
 // The mask, and the biases in its order.
 fn put_block(bytes: &mut [u8], start: usize, signals: &[u8], biases: &[i16])
-    requires { ⌜ Fits (now bytes) start (fields1230 (records1230 (now signals) (now biases))) × (length (now signals) ≡ length (now biases)) ⌝ }
+    requires { ⌜ RoomFor (now bytes) start (fields1230 (records1230 (now signals) (now biases))) × (length (now signals) ≡ length (now biases)) ⌝ }
     ensures { λ r. ⌜ now (bytes .exit) ≡ putAll (now (bytes .entry)) start (fields1230 (records1230 (now (signals .entry)) (now (biases .entry)))) ⌝ }
 {
     let mask = mask_bit(2, signals) * 8
@@ -124,8 +124,8 @@ fn mask_bit(signal: u8, signals: &[u8]) -> u64
 
 // The biases of one signal, in list order. The answer is the bit behind them.
 fn put_signal(bytes: &mut [u8], start: usize, signal: u8, signals: &[u8], biases: &[i16]) -> usize
-    requires { ⌜ Fits (now bytes) start (biasFields1230 (ofSignal signal (records1230 (now signals) (now biases)))) × (length (now signals) ≡ length (now biases)) ⌝ }
-    ensures { λ r. ⌜ Did (now (bytes .entry)) start (biasFields1230 (ofSignal signal (records1230 (now (signals .entry)) (now (biases .entry))))) (now (bytes .exit)) r ⌝ }
+    requires { ⌜ RoomFor (now bytes) start (biasFields1230 (ofSignal signal (records1230 (now signals) (now biases)))) × (length (now signals) ≡ length (now biases)) ⌝ }
+    ensures { λ r. ⌜ IsPut (now (bytes .entry)) start (biasFields1230 (ofSignal signal (records1230 (now (signals .entry)) (now (biases .entry))))) (now (bytes .exit)) r ⌝ }
 {
     let mut at = start;
     let mut i: usize = 0;

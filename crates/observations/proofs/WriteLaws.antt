@@ -13,7 +13,7 @@ use Rattle.bits.specs.Fields.{total, putAll}
 use Rattle.bits.specs.Signed.{fitsUnsigned, fitsTwos}
 use Rattle.formats.specs.Format.{fitEach, fieldsEach}
 use Rattle.formats.specs.Written.{fine, firstFault}
-use Rattle.formats.specs.Put.{Fits, Did}
+use Rattle.formats.specs.Put.{RoomFor, IsPut}
 use Rattle.bits.proofs.FieldsLaws.{total-none, total-next}
 use Rattle.formats.proofs.NextLaws.{both-true}
 use Rattle.formats.proofs.PutLaws.{Left, left-all, left-as, left-fits, left-fits-all, left-put}
@@ -217,7 +217,7 @@ all-left l n e = sym (ap (fitEach observation1001) (rows-all l n)) ∙ e
 front-bits : (h : Header) (n : ℕ) → total (frontFields h n) ≡ 64
 front-bits h n = rw (total-next, total-next, total-next, total-next, total-next, total-next, total-next, total-none)
 
-pub front-ends : {s t : List ℕ} {h : Header} {n q : ℕ} → Did s 0 (frontFields h n) t q → Did s 0 (frontFields h n) t 64
+pub front-ends : {s t : List ℕ} {h : Header} {n q : ℕ} → IsPut s 0 (frontFields h n) t q → IsPut s 0 (frontFields h n) t 64
 front-ends {s} {t} {h} {n} {q} d = let b = front-bits h n in record { end = omega (arith, b); left = d .left }
 
 module _ (s : List ℕ) (h : Header) (l : Lists) where
@@ -225,16 +225,16 @@ module _ (s : List ℕ) (h : Header) (l : Lists) where
   begun = left-as (laid h l) (left-all s 0 (message1001 .fields (message h (rows l))))
 
   module _ (few : length s ≤ 1023) (room : 64 + places l * 58 ≤ length s * 8) where
-    fits : Fits s 0 (message1001 .fields (message h (rows l)))
+    fits : RoomFor s 0 (message1001 .fields (message h (rows l)))
     fits = let w = whole-bits h l in record { few = few; within = omega (arith, w, room) }
 
-    pub front-fits : Fits s 0 (frontFields h (places l))
+    pub front-fits : RoomFor s 0 (frontFields h (places l))
     front-fits = left-fits (frontFields h (places l)) (fieldsEach observation1001 (rows l)) begun fits
 
-    pub rows-fit : {t : List ℕ} → Did s 0 (frontFields h (places l)) t 64 → Fits t 64 (fieldsEach observation1001 (rows l))
+    pub rows-fit : {t : List ℕ} → IsPut s 0 (frontFields h (places l)) t 64 → RoomFor t 64 (fieldsEach observation1001 (rows l))
     rows-fit d = left-fits-all (fieldsEach observation1001 (rows l)) (left-put (frontFields h (places l)) (fieldsEach observation1001 (rows l)) begun d) fits
 
-  pub all-put : {t u : List ℕ} {o : Outcome ℕ (List ℕ)} {q : ℕ} → Did s 0 (frontFields h (places l)) t 64 → u ≡ putAll t 64 (fieldsEach observation1001 (rows l))
+  pub all-put : {t u : List ℕ} {o : Outcome ℕ (List ℕ)} {q : ℕ} → IsPut s 0 (frontFields h (places l)) t 64 → u ≡ putAll t 64 (fieldsEach observation1001 (rows l))
       → outcome (Accepted q) (putAll s 0 (message1001 .fields (message h (rows l)))) ≡ o → outcome (Accepted q) u ≡ o
   all-put {t} {u} {o} {q} d e p =
       let m = left-put (frontFields h (places l)) (fieldsEach observation1001 (rows l)) begun d in

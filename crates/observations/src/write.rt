@@ -6,7 +6,7 @@ ghost use lib.ListN.{length};
 ghost use Rattle.bits.specs.Outcome.{outcome};
 ghost use Rattle.bits.specs.Signed.{fitsTwos};
 ghost use Rattle.bits.specs.Fields.{putAll};
-ghost use Rattle.formats.specs.Put.{Fits, Did};
+ghost use Rattle.formats.specs.Put.{RoomFor, IsPut};
 ghost use Rattle.formats.specs.Format.{fieldsEach};
 ghost use Rattle.formats.specs.Written.{firstFault};
 ghost use Rattle.observations.specs.Message1001.{observation1001, headerFits};
@@ -204,8 +204,8 @@ fn write_sound(
 
 // The message number, the header and the count.
 fn put_front(bytes: &mut [u8], header: Header, count: u32)
-    requires { ⌜ Fits (now bytes) 0 (frontFields header count) × (headerFits header ≡ true) × (count ≤ 31) ⌝ }
-    ensures { λ r. ⌜ Did (now (bytes .entry)) 0 (frontFields header count) (now (bytes .exit)) 64 ⌝ }
+    requires { ⌜ RoomFor (now bytes) 0 (frontFields header count) × (headerFits header ≡ true) × (count ≤ 31) ⌝ }
+    ensures { λ r. ⌜ IsPut (now (bytes .entry)) 0 (frontFields header count) (now (bytes .exit)) 64 ⌝ }
 {
     let at = put::unsigned(bytes, 0, 12, 1001);
     let at = put::unsigned(bytes, at, 12, header.station);
@@ -225,7 +225,7 @@ fn put_rows(
     phases: &[i32],
     locks: &[u8],
 )
-    requires { ⌜ Fits (now bytes) 64 (fieldsEach observation1001 (rows (lists (now satellites) (now codes) (now pseudoranges) (now phases) (now locks)))) × Alike (lists (now satellites) (now codes) (now pseudoranges) (now phases) (now locks)) (length (now satellites)) × AllFit (rows (lists (now satellites) (now codes) (now pseudoranges) (now phases) (now locks))) ⌝ }
+    requires { ⌜ RoomFor (now bytes) 64 (fieldsEach observation1001 (rows (lists (now satellites) (now codes) (now pseudoranges) (now phases) (now locks)))) × Alike (lists (now satellites) (now codes) (now pseudoranges) (now phases) (now locks)) (length (now satellites)) × AllFit (rows (lists (now satellites) (now codes) (now pseudoranges) (now phases) (now locks))) ⌝ }
     ensures { λ r. ⌜ now (bytes .exit) ≡ putAll (now (bytes .entry)) 64 (fieldsEach observation1001 (rows (lists (now (satellites .entry)) (now (codes .entry)) (now (pseudoranges .entry)) (now (phases .entry)) (now (locks .entry))))) ⌝ }
 {
     let mut at: usize = 64;
@@ -242,8 +242,8 @@ fn put_rows(
 
 // One observation.
 fn put_row(bytes: &mut [u8], start: usize, seen: Observation) -> usize
-    requires { ⌜ Fits (now bytes) start (observation1001 .fields seen) × (observation1001 .fits seen ≡ true) ⌝ }
-    ensures { λ r. ⌜ Did (now (bytes .entry)) start (observation1001 .fields seen) (now (bytes .exit)) r ⌝ }
+    requires { ⌜ RoomFor (now bytes) start (observation1001 .fields seen) × (observation1001 .fits seen ≡ true) ⌝ }
+    ensures { λ r. ⌜ IsPut (now (bytes .entry)) start (observation1001 .fields seen) (now (bytes .exit)) r ⌝ }
 {
     let phase = seen.phase;
     let at = put::unsigned(bytes, start, 6, seen.satellite as u32);

@@ -6,7 +6,7 @@ use Rattle.frames.specs.Rtcm.{Kind}
 use Rattle.frames.specs.Modes.{framingOf}
 use Rattle.frames.specs.Scan.{Handed}
 use Rattle.frames.specs.Close.{closeOf}
-use Rattle.frames.specs.Offered.{found}
+use Rattle.frames.specs.Offered.{handedOut}
 use Rattle.peerivolt.specs.Extra.{Returned, returned}
 use Rattle.peerivolt.specs.Scanner.{scannerOf}
 use Rattle.peerivolt.specs.Closing.{closes}
@@ -25,4 +25,4 @@ module _ (mode : ℕ) where
   pub data PvCloses : List ℕ → ℕ → ℕ → List (Handed Kind) → ℕ → ℕ → ℕ → Type 0 where
     done : {a b q : List ℕ} {m n s m' n' : ℕ} (o e : List ℕ) → pvClose a m n o e ≡ returned 0 (doneNumbers s m' n') (b, q) → PvCloses a m n [] s m' n'
     then : {a b q : List ℕ} {m n s l i m' n' u v w : ℕ} {k : Kind} {fs : List (Handed Kind)} (o e : List ℕ)
-        → pvClose a m n o e ≡ returned 0 (frameNumbers l 0 s i k m' n') (b, q) → PvCloses b m' n' fs u v w → PvCloses a m n (found i k l q ∷ fs) (s + u) v w
+        → pvClose a m n o e ≡ returned 0 (frameNumbers l 0 s i k m' n') (b, q) → PvCloses b m' n' fs u v w → PvCloses a m n (handedOut i k l q ∷ fs) (s + u) v w

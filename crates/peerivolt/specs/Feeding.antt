@@ -7,7 +7,7 @@ use Rattle.frames.specs.Rtcm.{Kind}
 use Rattle.frames.specs.Modes.{framingOf}
 use Rattle.frames.specs.Scan.{Handed}
 use Rattle.frames.specs.Call.{feedOf}
-use Rattle.frames.specs.Offered.{found}
+use Rattle.frames.specs.Offered.{handedOut}
 use Rattle.peerivolt.specs.Extra.{Returned, returned}
 use Rattle.peerivolt.specs.Scanner.{scannerOf, kindNumber, feeds}
 
@@ -29,7 +29,7 @@ module _ (mode : ℕ) where
     last : {a p b q : List ℕ} {m n t s m' n' : ℕ} (o e : List ℕ) → pvFeed a m n p o e ≡ returned 0 (moreNumbers t s m' n') (b, q) → PvOffered a m n p [] s b m' n'
     then : {a p b q c : List ℕ} {m n t s l i m' n' u v w : ℕ} {k : Kind} {fs : List (Handed Kind)} (o e : List ℕ)
         → pvFeed a m n p o e ≡ returned 0 (frameNumbers l t s i k m' n') (b, q) → PvOffered b m' n' (drop t p) fs u c v w
-        → PvOffered a m n p (found i k l q ∷ fs) (s + u) c v w
+        → PvOffered a m n p (handedOut i k l q ∷ fs) (s + u) c v w
 
   -- Piece after piece, each fed until More.
   pub data PvOffers : List ℕ → ℕ → ℕ → List (List ℕ) → List (Handed Kind) → ℕ → List ℕ → ℕ → ℕ → Type 0 where
@@ -44,4 +44,4 @@ module _ (mode : ℕ) where
         → PvCalls s fs z a m n → pvFeed a m n p o e ≡ returned 0 (moreNumbers t j m' n') (b, q) → PvCalls (s ++ take t p) fs (z + j) b m' n'
     frame : {s a b q : List ℕ} {fs : List (Handed Kind)} {z m n l t j i m' n' : ℕ} (k : Kind) (p o e : List ℕ)
         → PvCalls s fs z a m n → pvFeed a m n p o e ≡ returned 0 (frameNumbers l t j i k m' n') (b, q)
-        → PvCalls (s ++ take t p) (fs ++ (found i k l q ∷ [])) (z + j) b m' n'
+        → PvCalls (s ++ take t p) (fs ++ (handedOut i k l q ∷ [])) (z + j) b m' n'

@@ -10,7 +10,7 @@ use Rattle.bits.specs.Fields.{total}
 use Rattle.bits.specs.Signed.{fitsUnsigned}
 use Rattle.bits.proofs.FieldsLaws.{total-none, total-next}
 use Rattle.formats.specs.Faithful.{Faithful}
-use Rattle.formats.specs.Put.{Did}
+use Rattle.formats.specs.Put.{IsPut}
 use Rattle.formats.proofs.NextLaws.{both-true}
 use Rattle.formats.proofs.NumberedLaws.{numbered-faithful}
 use Rattle.formats.proofs.GoodLaws.{Good, unsigned-good, then-good, shaped-good}
@@ -33,7 +33,7 @@ front-faithful = numbered-faithful 1059 header1059 (lit≤ tt) (good .faithful)
 pub front-bits : (h : Header1059) → total (fields1059 h) ≡ 61
 front-bits h = rw (total-next, total-next, total-next, total-next, total-next, total-next, total-next, total-none)
 
-pub front-ends : {s t : List ℕ} {h : Header1059} {q : ℕ} → Did s 0 (fields1059 h) t q → Did s 0 (fields1059 h) t 61
+pub front-ends : {s t : List ℕ} {h : Header1059} {q : ℕ} → IsPut s 0 (fields1059 h) t q → IsPut s 0 (fields1059 h) t 61
 front-ends {s} {t} {h} {q} d = let b = front-bits h in record { end = omega (arith, b); left = d .left }
 
 module _ (h : Header1059) where

@@ -13,7 +13,7 @@ use denote.Enum.Declared.{tagOf}
 use Rattle.bits.specs.Told.{Told, Accepted, Refused, size, kind, range, room}
 use Rattle.bits.specs.Outcome.{Outcome, outcome}
 use Rattle.bits.specs.Fields.{putAll}
-use Rattle.formats.specs.Put.{Fits, Did}
+use Rattle.formats.specs.Put.{RoomFor, IsPut}
 use Rattle.messages.specs.Answers.{toldBlock}
 use Rattle.messages.specs.declared.answer.BlockWritten.{BlockWritten}
 use Rattle.messages.specs.declared.answer.BlockWritten.the-variants as W
@@ -81,14 +81,14 @@ module _ (e : ℕ) (s : List ℕ) (h : Header1059) (sats gs : List ℕ) (zs : Li
                 pub room-carries : {n m : ℕ} → w ≡ W.Room n → m ≡ raised 61 n → outcome (room m) u ≡ call
                 room-carries r q = ap (λ (m : ℕ). outcome (room m) u) q ∙ ap (λ (x : BlockWritten). before 61 (fields1059 h) (toldBlock x) u) (sym r) ∙ goes-on o
 
-                pub front-fits : {q : ℕ} → w ≡ W.End q → Fits u 0 (fields1059 h)
+                pub front-fits : {q : ℕ} → w ≡ W.End q → RoomFor u 0 (fields1059 h)
                 front-fits r =
                     let same : length u ≡ length s = ap (λ (x : Outcome ℕ (List ℕ)). length (x .areas)) o ∙ leaves-1059 s 61 e sats gs zs .long in
                     let a = call-accepted e s 61 sats gs zs (sym (ap (λ (x : Outcome ℕ (List ℕ)). x .answer) o) ∙ ap toldBlock r) in
                     let b = front-bits h in
                     record { few = omega (arith, same, k1); within = omega (arith, same, b, a .within) }
 
-                pub written : {q : ℕ} → w ≡ W.End q → {v : List ℕ} {p : ℕ} → Did u 0 (fields1059 h) v p → outcome (toldBlock w) v ≡ call
+                pub written : {q : ℕ} → w ≡ W.End q → {v : List ℕ} {p : ℕ} → IsPut u 0 (fields1059 h) v p → outcome (toldBlock w) v ≡ call
                 written {q} r {v} dd =
                     ap (λ (x : BlockWritten). outcome (toldBlock x) v) r
                     ∙ ap (λ (x : List ℕ). outcome (Accepted q) x) (dd .left)

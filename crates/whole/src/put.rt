@@ -2,14 +2,14 @@
 ghost use mathlib.Core.List.{[], _∷_};
 ghost use Prim.Native.Nat.{_^_, _≤_, _<_};
 ghost use Rattle.bits.specs.Fields.{bits};
-ghost use Rattle.formats.specs.Put.{Fits, Did};
+ghost use Rattle.formats.specs.Put.{RoomFor, IsPut};
 use bits::field;
 use bits::field::Written;
 
 // Writes an unsigned number.
 pub(crate) fn unsigned(bytes: &mut [u8], at: usize, width: usize, value: u32) -> usize
-    requires { ⌜ Fits (now bytes) at (bits width value ∷ []) × (1 ≤ width) × (width ≤ 64) × (value < 2 ^ width) ⌝ }
-    ensures { λ r. ⌜ Did (now (bytes .entry)) at (bits width value ∷ []) (now (bytes .exit)) r ⌝ }
+    requires { ⌜ RoomFor (now bytes) at (bits width value ∷ []) × (1 ≤ width) × (width ≤ 64) × (value < 2 ^ width) ⌝ }
+    ensures { λ r. ⌜ IsPut (now (bytes .entry)) at (bits width value ∷ []) (now (bytes .exit)) r ⌝ }
 {
     let Written::End(next) = field::write_unsigned(bytes, at, width, value as u64) else {
         return at;

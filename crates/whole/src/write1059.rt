@@ -2,7 +2,7 @@
 ghost use mathlib.Core.Path.{_≡_};
 ghost use mathlib.Core.Bool.{true};
 ghost use Rattle.bits.specs.Outcome.{outcome};
-ghost use Rattle.formats.specs.Put.{Fits, Did};
+ghost use Rattle.formats.specs.Put.{RoomFor, IsPut};
 ghost use Rattle.messages.specs.Signals1059.{isEdition};
 ghost use Rattle.messages.specs.Answers.{toldBlock};
 ghost use Rattle.whole.specs.Headers.{headerFits1059, fields1059};
@@ -97,8 +97,8 @@ fn header_fits(header: Header1059) -> bool
 
 // The message number and the header.
 fn put_front(bytes: &mut [u8], header: Header1059)
-    requires { ⌜ Fits (now bytes) 0 (fields1059 header) × (headerFits1059 header ≡ true) ⌝ }
-    ensures { λ r. ⌜ Did (now (bytes .entry)) 0 (fields1059 header) (now (bytes .exit)) 61 ⌝ }
+    requires { ⌜ RoomFor (now bytes) 0 (fields1059 header) × (headerFits1059 header ≡ true) ⌝ }
+    ensures { λ r. ⌜ IsPut (now (bytes .entry)) 0 (fields1059 header) (now (bytes .exit)) 61 ⌝ }
 {
     let at = put::unsigned(bytes, 0, 12, 1059);
     let at = put::unsigned(bytes, at, 20, header.epoch);

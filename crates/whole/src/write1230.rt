@@ -2,7 +2,7 @@
 ghost use mathlib.Core.Path.{_≡_};
 ghost use mathlib.Core.Bool.{true};
 ghost use Rattle.bits.specs.Outcome.{outcome};
-ghost use Rattle.formats.specs.Put.{Fits, Did};
+ghost use Rattle.formats.specs.Put.{RoomFor, IsPut};
 ghost use Rattle.messages.specs.Answers.{toldBlock};
 ghost use Rattle.whole.specs.Headers.{headerFits1230, fields1230};
 ghost use Rattle.whole.specs.Whole.{raised};
@@ -64,8 +64,8 @@ fn header_fits(header: Header1230) -> bool
 
 // The message number and the header.
 fn put_front(bytes: &mut [u8], header: Header1230)
-    requires { ⌜ Fits (now bytes) 0 (fields1230 header) × (headerFits1230 header ≡ true) ⌝ }
-    ensures { λ r. ⌜ Did (now (bytes .entry)) 0 (fields1230 header) (now (bytes .exit)) 28 ⌝ }
+    requires { ⌜ RoomFor (now bytes) 0 (fields1230 header) × (headerFits1230 header ≡ true) ⌝ }
+    ensures { λ r. ⌜ IsPut (now (bytes .entry)) 0 (fields1230 header) (now (bytes .exit)) 28 ⌝ }
 {
     let at = put::unsigned(bytes, 0, 12, 1230);
     let at = put::unsigned(bytes, at, 12, header.station);

@@ -6,12 +6,12 @@ use borrow.Author.Needs.{needs}
 use Rattle.frames.specs.Call.{Scanner}
 use Rattle.frames.specs.Answers.{known}
 use Rattle.frames.proofs.CallLaws.{Fits, wrong-area, wrong-count, over-taken, over-limit, wrong-mode, small-output}
-use Rattle.frames.proofs.EndLaws.{refuses, end-movable, end-closes}
+use Rattle.frames.proofs.EndLaws.{refuses, end-can-hold, end-closes}
 use Rattle.frames.proofs.close.close.Statement.{statement}
 use Rattle.frames.proofs.close.close.Tie as tie
 
 -- past the refusals the call is accepted
-module _ (c : tie.After-look-last) where
+module _ (c : tie.After-find-at-end) where
   abbrev area : List ℕ
   area = c .before .before .before .before .before .before .before .before .before .before .before .before .before .before .before .args .held .now
 
@@ -48,12 +48,12 @@ returns-6 c = refuses _ _ _ _ (small-output _ _ _ _ _ (omega arith) (omega arith
 carry-out-requires : tie.Need-carry-out-requires
 carry-out-requires c κs =
     let w = c .before .before .before .before in
-    (omega arith, omega arith, omega arith, omega arith, omega arith, end-movable (mode w) (area w) (scanner w) (out w) (fits w) _ (w .look-last .ensures))
+    (omega arith, omega arith, omega arith, omega arith, omega arith, end-can-hold (mode w) (area w) (scanner w) (out w) (fits w) _ (w .find-at-end .ensures))
 
 returns-7 : tie.Need-returns-7
 returns-7 c =
     let w = c .before .before .before .before .before .before .before .before .before .before in
-    end-closes (mode w) (area w) (scanner w) (out w) (fits w) _ (w .look-last .ensures) (c .before .before .before .before .before .carry-out .ensures) (c .ended .ensures)
+    end-closes (mode w) (area w) (scanner w) (out w) (fits w) _ (w .find-at-end .ensures) (c .before .before .before .before .before .carry-out .ensures) (c .ended .ensures)
 
 pub close-spec : {M : Type 1} → statement M
 close-spec =

@@ -2,7 +2,7 @@
 use mathlib.Core.List.{_++_}
 use native.Mathlib.Omega.{arith}
 use lib.ListN.{length-append}
-use Rattle.frames.proofs.SeenLaws.{length-here, seen-few, seen-cut}
+use Rattle.frames.proofs.CandidateLaws.{length-here, candidate-few, candidate-cut}
 use Rattle.frames.proofs.ManyLaws.{both-bytes, window-good, window-bad}
 use borrow.Author.Needs.{needs}
 use Rattle.frames.proofs.many.rtcm_in.Statement.{statement}
@@ -17,7 +17,7 @@ sub-left c = search needs
 returns : tie.Need-returns
 returns c =
     let a = c .before .before .before .before .args in
-    seen-few _ (a .i) (c .before .before .before .before .pre .2) (omega (arith, length-append (a .held .now) (a .piece .now)))
+    candidate-few _ (a .i) (c .before .before .before .before .pre .2) (omega (arith, length-append (a .held .now) (a .piece .now)))
 
 three-at-requires : tie.Need-three-at-requires
 three-at-requires c κs = search needs
@@ -31,7 +31,7 @@ add-if2 c = search needs
 returns-2 : tie.Need-returns-2
 returns-2 c =
     let a = c .before .before .before .before .before .before .args in
-    seen-cut _ (a .i) (c .before .before .before .before .before .before .pre .2) _ (length-here _ (a .i) _ (c .before .three-at .ensures .0)) (omega (arith, length-append (a .held .now) (a .piece .now)))
+    candidate-cut _ (a .i) (c .before .before .before .before .before .before .pre .2) _ (length-here _ (a .i) _ (c .before .three-at .ensures .0)) (omega (arith, length-append (a .held .now) (a .piece .now)))
 
 sub-k : tie.Need-sub-k
 sub-k c = search needs

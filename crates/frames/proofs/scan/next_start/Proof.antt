@@ -2,7 +2,7 @@
 use native.Mathlib.Omega.{arith}
 use borrow.Author.Needs.{needs}
 use Rattle.frames.specs.Steps.{startsIn}
-use Rattle.frames.proofs.SeenLaws.{start-right, start-left, start-both}
+use Rattle.frames.proofs.CandidateLaws.{start-right, start-left, start-both}
 use Rattle.frames.proofs.scan.next_start.Statement.{statement}
 use Rattle.frames.proofs.scan.next_start.Tie as tie
 

@@ -2,7 +2,7 @@
 use native.Mathlib.Omega.{arith}
 use lib.ListN.{length-append}
 use borrow.Author.Needs.{needs}
-use Rattle.frames.proofs.SeenLaws.{length-here, seen-few, seen-cut, seen-good, seen-bad}
+use Rattle.frames.proofs.CandidateLaws.{length-here, candidate-few, candidate-cut, candidate-good, candidate-bad}
 use Rattle.frames.proofs.scan.rtcm_at.Statement.{statement}
 use Rattle.frames.proofs.scan.rtcm_at.Tie as tie
 
@@ -16,7 +16,7 @@ returns : tie.Need-returns
 returns c =
     let a = c .before .before .before .args in
     let l = length-append (a .held .now) (a .piece .now) in
-    seen-few _ (a .i) (c .before .before .before .pre .2) (omega (arith, l))
+    candidate-few _ (a .i) (c .before .before .before .pre .2) (omega (arith, l))
 
 three-at-requires : tie.Need-three-at-requires
 three-at-requires c κs = search needs
@@ -31,7 +31,7 @@ returns-2 : tie.Need-returns-2
 returns-2 c =
     let a = c .before .before .before .before .before .args in
     let l = length-append (a .held .now) (a .piece .now) in
-    seen-cut _ (a .i) (c .before .before .before .before .before .pre .2) _ (length-here _ (a .i) _ (c .before .three-at .ensures .0)) (omega (arith, l))
+    candidate-cut _ (a .i) (c .before .before .before .before .before .pre .2) _ (length-here _ (a .i) _ (c .before .three-at .ensures .0)) (omega (arith, l))
 
 add-e : tie.Need-add-e
 add-e c = search needs
@@ -55,7 +55,7 @@ returns-3 : tie.Need-returns-3
 returns-3 c =
     let a = c .before .before .before .before .before .before .before .before .args in
     let l = length-append (a .held .now) (a .piece .now) in
-    seen-good _ (a .i) (c .before .before .before .before .before .before .before .before .pre .2) _ (length-here _ (a .i) _ (c .before .before .before .before .three-at .ensures .0)) _ _ (omega (arith, l)) (c .before .before .sum-of .ensures) (c .before .three-at2 .ensures .0) (c .if3 .taken)
+    candidate-good _ (a .i) (c .before .before .before .before .before .before .before .before .pre .2) _ (length-here _ (a .i) _ (c .before .before .before .before .three-at .ensures .0)) _ _ (omega (arith, l)) (c .before .before .sum-of .ensures) (c .before .three-at2 .ensures .0) (c .if3 .taken)
 
 add-t7 : tie.Need-add-t7
 add-t7 c = search needs
@@ -64,7 +64,7 @@ returns-4 : tie.Need-returns-4
 returns-4 c =
     let a = c .before .before .before .before .before .before .before .before .args in
     let l = length-append (a .held .now) (a .piece .now) in
-    seen-bad _ (a .i) (c .before .before .before .before .before .before .before .before .pre .2) _ (length-here _ (a .i) _ (c .before .before .before .before .three-at .ensures .0)) _ _ (omega (arith, l)) (c .before .before .sum-of .ensures) (c .before .three-at2 .ensures .0) (c .if3 .left)
+    candidate-bad _ (a .i) (c .before .before .before .before .before .before .before .before .pre .2) _ (length-here _ (a .i) _ (c .before .before .before .before .three-at .ensures .0)) _ _ (omega (arith, l)) (c .before .before .sum-of .ensures) (c .before .three-at2 .ensures .0) (c .if3 .left)
 
 pub rtcm-at-spec : {M : Type 1} → statement M
 rtcm-at-spec =

@@ -1,7 +1,7 @@
 -- Three bytes are a field of 24 bits. Assumes nothing.
 use native.Mathlib.Omega.{arith}
 use borrow.Author.Needs.{needs}
-use Rattle.frames.proofs.SeenLaws.{three-here}
+use Rattle.frames.proofs.CandidateLaws.{three-here}
 use Rattle.frames.proofs.scan.three_at.Statement.{statement}
 use Rattle.frames.proofs.scan.three_at.Tie as tie
 

@@ -4,15 +4,15 @@ use Prim.Native.Nat.{ℕ}
 use native.Mathlib.Omega.{arith}
 use lib.ListN.{length}
 use Rattle.frames.specs.Answers.{known}
-use Rattle.frames.specs.Steps.{moved, Movable}
-use Rattle.frames.specs.declared.scan.Sight.the-variants.{Frame}
-use Rattle.frames.proofs.SightLaws.{moved-more, moved-frame}
+use Rattle.frames.specs.Steps.{moved, CanHold}
+use Rattle.frames.specs.declared.scan.Searched.the-variants.{Frame}
+use Rattle.frames.proofs.MovedLaws.{moved-more, moved-frame}
 use borrow.Author.Needs.{needs}
 use Rattle.frames.proofs.scanner.carry_out.Statement.{statement}
 use Rattle.frames.proofs.scanner.carry_out.Tie as tie
 
 -- the places of a frame that was found
-module _ (c : tie.After-found2) where
+module _ (c : tie.After-searched2) where
   abbrev area : ℕ
   area = length (c .before .before .before .before .before .args .held .now)
 
@@ -22,32 +22,32 @@ module _ (c : tie.After-found2) where
   abbrev count : ℕ
   count = c .before .before .before .before .before .args .scanner .count
 
-  there : Movable area count size (Frame (c .found2 .given .0 .0) (c .found2 .given .0 .1 .0) (c .found2 .given .0 .1 .1 .0))
-  there = subst (Movable area count size) (c .found2 .given .1) (c .before .before .before .before .before .pre .5)
+  there : CanHold area count size (Frame (c .searched2 .given .0 .0) (c .searched2 .given .0 .1 .0) (c .searched2 .given .0 .1 .1 .0))
+  there = subst (CanHold area count size) (c .searched2 .given .1) (c .before .before .before .before .before .pre .5)
 
-enum-known-found : tie.Need-enum-known-found
-enum-known-found c = search needs
+enum-known-searched : tie.Need-enum-known-searched
+enum-known-searched c = search needs
 
 slide-requires : tie.Need-slide-requires
 slide-requires c κs =
     let x = c .before .before .before .before .before .before .before in
-    let k = subst (Movable _ _ _) (c .before .before .found .given .1) (x .pre .5) in
+    let k = subst (CanHold _ _ _) (c .before .before .searched .given .1) (x .pre .5) in
     (x .pre .0, k .0, k .1, omega arith)
 
 onwards-requires : tie.Need-onwards-requires
 onwards-requires c κs = search needs
 
-enum-known-found-2 : tie.Need-enum-known-found-2
-enum-known-found-2 c = search needs
+enum-known-searched-2 : tie.Need-enum-known-searched-2
+enum-known-searched-2 c = search needs
 
-sub-looked : tie.Need-sub-looked
-sub-looked c = search needs
+sub-front : tie.Need-sub-front
+sub-front c = search needs
 
-part-looked-start : tie.Need-part-looked-start
-part-looked-start c = search needs
+part-front-start : tie.Need-part-front-start
+part-front-start c = search needs
 
-part-looked-end : tie.Need-part-looked-end
-part-looked-end c = there (c .before) .0
+part-front-end : tie.Need-part-front-end
+part-front-end c = there (c .before) .0
 
 sub-gather : tie.Need-sub-gather
 sub-gather c = search needs
@@ -88,7 +88,7 @@ same-length c = search needs
 returns : tie.Need-returns
 returns c =
     let a = c .before .before .before .before .before .before .before .before .before .before .before .args in
-    let f = c .before .before .before .before .before .before .found .given in
+    let f = c .before .before .before .before .before .before .searched .given in
     let u = c .before .before .before .slide .ensures in
     moved-more (a .held .now) (known (a .scanner)) (a .piece .now) (a .out .now) (f .0 .0) _ _ _ (u .0) (c .onwards .ensures) (u .1)
     ∙ ap (moved (a .held .now) (known (a .scanner)) (a .piece .now) (a .out .now)) (sym (f .1))
@@ -103,7 +103,7 @@ returns-2 : tie.Need-returns-2
 returns-2 c =
     let a = c .before .before .before .before .before .before .before .before .before .before .before .before .before .before .before .before .before .before .before .before .before .args in
     let w = c .before .before .before .before .before .before .before .before .before .before .before .before .before .before .before .before in
-    let f = w .found2 .given in
+    let f = w .searched2 .given in
     let u = c .before .before .before .before .before .before .slide2 .ensures in
     moved-frame (a .held .now) (known (a .scanner)) (a .piece .now) (a .out .now) (f .0 .0) (f .0 .1 .0) (f .0 .1 .1 .0) _ _ _ _ _ _ (there w .0) (u .0) refl (c .before .kind-of .ensures) (c .onwards2 .ensures) (u .1) (c .before .before .before .before .before .before .before .before .before .before .gather .ensures)
     ∙ ap (moved (a .held .now) (known (a .scanner)) (a .piece .now) (a .out .now)) (sym (f .1))
@@ -112,13 +112,13 @@ pub carry-out-spec : {M : Type 1} → statement M
 carry-out-spec =
     tie.close
     (tie.spec
-    enum-known-found
+    enum-known-searched
     slide-requires
     onwards-requires
-    enum-known-found-2
-    sub-looked
-    part-looked-start
-    part-looked-end
+    enum-known-searched-2
+    sub-front
+    part-front-start
+    part-front-end
     sub-gather
     part-gather-start
     part-gather-end

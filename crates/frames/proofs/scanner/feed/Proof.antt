@@ -6,13 +6,13 @@ use native.Mathlib.Omega.{arith}
 use Rattle.frames.specs.Call.{Scanner}
 use Rattle.frames.specs.Answers.{known}
 use Rattle.frames.proofs.CallLaws.{Fits, wrong-area, wrong-count, over-taken, over-limit, wrong-mode, long-piece, past-limit, small-output}
-use Rattle.frames.proofs.SightLaws.{found-movable, found-moved}
+use Rattle.frames.proofs.MovedLaws.{searched-can-hold, searched-moves}
 use borrow.Author.Needs.{needs}
 use Rattle.frames.proofs.scanner.feed.Statement.{statement}
 use Rattle.frames.proofs.scanner.feed.Tie as tie
 
 -- past the refusals the call is accepted
-module _ (c : tie.After-look) where
+module _ (c : tie.After-find-frame) where
   abbrev area : List ℕ
   area = c .before .before .before .before .before .before .before .before .before .before .before .before .before .before .before .before .before .before .before .args .held .now
 
@@ -58,22 +58,22 @@ returns-7 c = sym (past-limit _ _ _ _ _ (omega arith) (omega arith) (omega arith
 returns-8 : tie.Need-returns-8
 returns-8 c = sym (small-output _ _ _ _ _ (omega arith) (omega arith) (omega arith) (omega arith) (omega arith) (omega arith) (omega arith) (omega arith))
 
-sub-look : tie.Need-sub-look
-sub-look c = search needs
+sub-find-frame : tie.Need-sub-find-frame
+sub-find-frame c = search needs
 
-part-look-start : tie.Need-part-look-start
-part-look-start c = search needs
+part-find-frame-start : tie.Need-part-find-frame-start
+part-find-frame-start c = search needs
 
-part-look-end : tie.Need-part-look-end
-part-look-end c = search needs
+part-find-frame-end : tie.Need-part-find-frame-end
+part-find-frame-end c = search needs
 
-look-requires : tie.Need-look-requires
-look-requires c κs = search needs
+find-frame-requires : tie.Need-find-frame-requires
+find-frame-requires c κs = search needs
 
 carry-out-requires : tie.Need-carry-out-requires
 carry-out-requires c κs =
     let w = c .before .before in
-    (omega arith, omega arith, omega arith, omega arith, omega arith, found-movable (mode w) (area w) (scanner w) (piece w) (out w) (fits w) _ (w .look .ensures))
+    (omega arith, omega arith, omega arith, omega arith, omega arith, searched-can-hold (mode w) (area w) (scanner w) (piece w) (out w) (fits w) _ (w .find-frame .ensures))
 
 same-length : tie.Need-same-length
 same-length c = search needs
@@ -84,7 +84,7 @@ same-length-2 c = search needs
 returns-9 : tie.Need-returns-9
 returns-9 c =
     let w = c .before .before .before .before .before .before .before in
-    c .before .before .before .before .carry-out .ensures ∙ found-moved (mode w) (area w) (scanner w) (piece w) (out w) (fits w) _ (w .look .ensures)
+    c .before .before .before .before .carry-out .ensures ∙ searched-moves (mode w) (area w) (scanner w) (piece w) (out w) (fits w) _ (w .find-frame .ensures)
 
 pub feed-spec : {M : Type 1} → statement M
 feed-spec =
@@ -99,10 +99,10 @@ feed-spec =
     add-if7
     returns-7
     returns-8
-    sub-look
-    part-look-start
-    part-look-end
-    look-requires
+    sub-find-frame
+    part-find-frame-start
+    part-find-frame-end
+    find-frame-requires
     carry-out-requires
     same-length
     same-length-2

@@ -2,7 +2,7 @@
 use mathlib.Core.Path.{sym, _∙_}
 use native.Mathlib.Omega.{arith}
 use lib.ListN.{length-append}
-use Rattle.frames.proofs.UbxSeenLaws.{payload-here, ubx-alone, ubx-other, ubx-few, ubx-long, ubx-cut, ubx-first-bad, ubx-second-bad, ubx-good}
+use Rattle.frames.proofs.UbxCandidateLaws.{payload-here, ubx-alone, ubx-other, ubx-few, ubx-long, ubx-cut, ubx-first-bad, ubx-second-bad, ubx-good}
 use borrow.Author.Needs.{needs}
 use Rattle.frames.proofs.ubx.ubx_at.Statement.{statement}
 use Rattle.frames.proofs.ubx.ubx_at.Tie as tie

@@ -12,7 +12,7 @@ use Rattle.messages.specs.Records.{records1059}
 use Rattle.messages.specs.Layout1059.{ofSatellite}
 use Rattle.messages.specs.StepsWrite1059.{biasFields, satelliteFields, nextOf}
 use Rattle.messages.proofs.I16Laws.{same-16}
-use Rattle.formats.proofs.PutLaws.{Left, left-all, left-as, left-on, left-fits, left-put, left-none, did-none}
+use Rattle.formats.proofs.PutLaws.{Left, left-all, left-as, left-on, left-fits, left-put, left-none, is-put-none}
 use Rattle.messages.proofs.RecordLaws.{from1059}
 use Rattle.messages.proofs.LinkLaws.{next-bounds, link-next, satellite-none, satellite-left, next-stands, next-records, bias-here, bias-none}
 use Rattle.messages.proofs.write1059.put_satellite.Statement.{statement}
@@ -67,7 +67,7 @@ linked c h =
 returns : tie.Need-returns Inv-loop μ-loop
 returns c =
     let s = c .before .before .before .before in
-    did-none (s .args .bytes .now) (s .args .start)
+    is-put-none (s .args .bytes .now) (s .args .start)
     (satellite-none (s .args .satellites .now) (s .args .signals .now) (s .args .biases .now) (s .pre .1 .signals) (s .pre .1 .biases) (s .args .a) (s .args .count) (s .pre .4) (c .if1 .taken))
 
 unsigned-requires : tie.Need-unsigned-requires Inv-loop μ-loop

@@ -8,7 +8,7 @@ use lib.ListN.{length, getD}
 use Rattle.bits.specs.Told.{Accepted}
 use Rattle.bits.specs.Outcome.{outcome}
 use Rattle.bits.specs.Fields.{bits, putAll}
-use Rattle.formats.specs.Put.{Fits, Did}
+use Rattle.formats.specs.Put.{RoomFor, IsPut}
 use Rattle.messages.specs.Records.{Rec1059, records1059}
 use Rattle.messages.specs.StepsWrite1059.{satellitesFrom, writeFaultless}
 use borrow.Author.Needs.{needs}
@@ -74,7 +74,7 @@ narrow c =
     sound-counts (a .bytes .now) (a .start) (a .satellites .now) (a .signals .now) (a .biases .now) (s .pre .1) _ _ _
     (c .before .before .before .before .before .before .before .before .before .before .link .ensures) _ (c .before .before .before .before .before .before .before .before .first-crowded .ensures .0) (c .before .before .before .before .before .before .before .if1 .left) _ (c .before .before .before .before .before .present .ensures .0)
 
-first-fits : (c : tie.Else4) → Fits (start c .args .bytes .now) (start c .args .start) (bits 6 (c .before .before .before .before .before .present .result) ∷ [])
+first-fits : (c : tie.Else4) → RoomFor (start c .args .bytes .now) (start c .args .start) (bits 6 (c .before .before .before .before .before .present .result) ∷ [])
 first-fits c =
     let s = start c in
     let a = s .args in
@@ -83,8 +83,8 @@ first-fits c =
     (c .before .before .before .before .if2 .left) _ (c .before .before .before .first-repeat .ensures (a .biases .now) (s .pre .1 .biases)) (c .before .before .if3 .left) (s .pre .0) (room c)
 
 -- t and q are the data and the place behind the satellite count
-module _ (c : tie.Else4) (t : List ℕ) (q : ℕ) (d : Did (start c .args .bytes .now) (start c .args .start) (bits 6 (c .before .before .before .before .before .present .result) ∷ []) t q) where
-  rest-fits : Fits t q (satellitesFrom 0 64 (records c))
+module _ (c : tie.Else4) (t : List ℕ) (q : ℕ) (d : IsPut (start c .args .bytes .now) (start c .args .start) (bits 6 (c .before .before .before .before .before .present .result) ∷ []) t q) where
+  rest-fits : RoomFor t q (satellitesFrom 0 64 (records c))
   rest-fits =
       let s = start c in
       let a = s .args in

@@ -2,7 +2,7 @@
 use borrow.Author.Needs.{needs}
 use mathlib.Core.Path.{ap, _∙_}
 use Rattle.bits.specs.Field.{writeTwos}
-use Rattle.formats.proofs.PutLaws.{did-one, did-else}
+use Rattle.formats.proofs.PutLaws.{is-put-one, is-put-else}
 use Rattle.observations.proofs.PhaseLaws.{widen}
 use Rattle.observations.proofs.put.twos.Statement.{statement}
 use Rattle.observations.proofs.put.twos.Tie as tie
@@ -15,14 +15,14 @@ returns c =
     let s = c .before .before .before .before .before .before in
     let w = c .before .before .before .write-twos in
     let z = s .args .value in
-    did-else _ _ _ _ _ (s .pre .0) (s .pre .1) (s .pre .2) (s .pre .3) (w .result) _ (w .ensures ∙ ap (writeTwos _ _ _) (widen z (s .fits .value) .1)) _ (c .match .keys2)
+    is-put-else _ _ _ _ _ (s .pre .0) (s .pre .1) (s .pre .2) (s .pre .3) (w .result) _ (w .ensures ∙ ap (writeTwos _ _ _) (widen z (s .fits .value) .1)) _ (c .match .keys2)
 
 returns-2 : tie.Need-returns-2
 returns-2 c =
     let s = c .before .before .before .before .before .before .before .before in
     let w = c .before .before .before .before .before .write-twos in
     let z = s .args .value in
-    did-one _ _ _ _ _ (s .pre .0) (s .pre .1) (s .pre .2) (s .pre .3) (w .result) _ (w .ensures ∙ ap (writeTwos _ _ _) (widen z (s .fits .value) .1)) _ (c .before .next .given .1)
+    is-put-one _ _ _ _ _ (s .pre .0) (s .pre .1) (s .pre .2) (s .pre .3) (w .result) _ (w .ensures ∙ ap (writeTwos _ _ _) (widen z (s .fits .value) .1)) _ (c .before .next .given .1)
 
 pub twos-spec : {M : Type 1} → statement M
 twos-spec =

@@ -1,7 +1,7 @@
 -- `observations::put::unsigned` meets its contract. The field fits, so the write is accepted. Assumes nothing.
 use borrow.Author.Needs.{needs}
 use borrow.Author.Tests.{lt-ltb}
-use Rattle.formats.proofs.PutLaws.{did-one, did-else}
+use Rattle.formats.proofs.PutLaws.{is-put-one, is-put-else}
 use Rattle.observations.proofs.put.unsigned.Statement.{statement}
 use Rattle.observations.proofs.put.unsigned.Tie as tie
 
@@ -9,13 +9,13 @@ returns : tie.Need-returns
 returns c =
     let s = c .before .before .before .before .before .before in
     let w = c .before .before .before .write-unsigned in
-    did-else _ _ _ _ _ (s .pre .0) (s .pre .1) (s .pre .2) (lt-ltb _ _ (s .pre .3)) (w .result) _ (w .ensures) _ (c .match .keys2)
+    is-put-else _ _ _ _ _ (s .pre .0) (s .pre .1) (s .pre .2) (lt-ltb _ _ (s .pre .3)) (w .result) _ (w .ensures) _ (c .match .keys2)
 
 returns-2 : tie.Need-returns-2
 returns-2 c =
     let s = c .before .before .before .before .before .before .before .before in
     let w = c .before .before .before .before .before .write-unsigned in
-    did-one _ _ _ _ _ (s .pre .0) (s .pre .1) (s .pre .2) (lt-ltb _ _ (s .pre .3)) (w .result) _ (w .ensures) _ (c .before .next .given .1)
+    is-put-one _ _ _ _ _ (s .pre .0) (s .pre .1) (s .pre .2) (lt-ltb _ _ (s .pre .3)) (w .result) _ (w .ensures) _ (c .before .next .given .1)
 
 pub unsigned-spec : {M : Type 1} → statement M
 unsigned-spec =

@@ -2,11 +2,11 @@
 use mathlib.Core.Path.{sym, _∙_}
 use mathlib.Core.List.{_++_}
 use native.Mathlib.Omega.{arith}
-use Rattle.frames.proofs.SeenLaws.{first-is}
-use Rattle.frames.proofs.UbxSeenLaws.{only-rtcm, only-d3, at-b5, at-d3, else-d3}
+use Rattle.frames.proofs.CandidateLaws.{first-is}
+use Rattle.frames.proofs.UbxCandidateLaws.{only-rtcm, only-d3, at-b5, at-d3, else-d3}
 use borrow.Author.Needs.{needs}
-use Rattle.frames.proofs.scan.seen_at.Statement.{statement}
-use Rattle.frames.proofs.scan.seen_at.Tie as tie
+use Rattle.frames.proofs.scan.candidate_at.Statement.{statement}
+use Rattle.frames.proofs.scan.candidate_at.Tie as tie
 
 rtcm-at-requires : tie.Need-rtcm-at-requires
 rtcm-at-requires c κs = (omega arith, omega arith, only-d3 _ _ (c .if1 .taken) (c .before .before .before .pre .2))
@@ -34,8 +34,8 @@ returns-3 c =
     let a = c .before .before .before .before .before .before .args in
     c .rtcm-at2 .ensures ∙ at-d3 _ _ (c .before .before .before .if1 .left) (λ q. c .before .if2 .left (c .before .before .byte-at .ensures .0 ∙ sym (first-is (a .held .now ++ a .piece .now) (a .i)) ∙ q))
 
-pub seen-at-spec : {M : Type 1} → statement M
-seen-at-spec =
+pub candidate-at-spec : {M : Type 1} → statement M
+candidate-at-spec =
     tie.close
     (tie.spec
     rtcm-at-requires

@@ -2,11 +2,11 @@
 use mathlib.Core.Path.{sym, _∙_}
 use mathlib.Core.List.{_++_}
 use native.Mathlib.Omega.{arith}
-use Rattle.frames.proofs.SeenLaws.{first-is}
-use Rattle.frames.proofs.UbxSeenLaws.{only-rtcm, only-d3, at-b5, at-d3, else-d3}
+use Rattle.frames.proofs.CandidateLaws.{first-is}
+use Rattle.frames.proofs.UbxCandidateLaws.{only-rtcm, only-d3, at-b5, at-d3, else-d3}
 use borrow.Author.Needs.{needs}
-use Rattle.frames.proofs.many.seen_in.Statement.{statement}
-use Rattle.frames.proofs.many.seen_in.Tie as tie
+use Rattle.frames.proofs.many.candidate_in.Statement.{statement}
+use Rattle.frames.proofs.many.candidate_in.Tie as tie
 
 rtcm-in-requires : tie.Need-rtcm-in-requires
 rtcm-in-requires c κs = let p = c .before .before .before .before .pre in (omega arith, omega arith, only-d3 _ _ (c .if1 .taken) (p .2), p .3, p .4, p .5)
@@ -35,8 +35,8 @@ returns-3 c =
     let a = c .before .before .before .before .before .before .before .args in
     c .rtcm-in2 .ensures ∙ at-d3 _ _ (c .before .before .before .if1 .left) (λ q. c .before .if2 .left (c .before .before .byte-at .ensures .0 ∙ sym (first-is (a .held .now ++ a .piece .now) (a .i)) ∙ q))
 
-pub seen-in-spec : {M : Type 1} → statement M
-seen-in-spec =
+pub candidate-in-spec : {M : Type 1} → statement M
+candidate-in-spec =
     tie.close
     (tie.spec
     rtcm-in-requires

@@ -17,9 +17,9 @@ use Rattle.frames.specs.Scan.{Decision, Skip, Take, Wait}
 use Rattle.frames.specs.Framing.{Framing, Lawful}
 use Rattle.frames.specs.Frame.{dataLength, ownSum, sentSum}
 use Rattle.frames.specs.Rtcm.{rtcm}
-use Rattle.frames.specs.Steps.{Start, seen, seenBy}
-use Rattle.frames.specs.declared.scan.Seen.{Seen}
-use Rattle.frames.specs.declared.scan.Seen.the-variants.{Incomplete, NotValid, Good}
+use Rattle.frames.specs.Steps.{Start, candidate, candidateBy}
+use Rattle.frames.specs.declared.scan.Candidate.{Candidate}
+use Rattle.frames.specs.declared.scan.Candidate.the-variants.{Incomplete, NotValid, Good}
 use Rattle.frames.proofs.FrameLaws.{length-at, three-field}
 use Rattle.frames.proofs.SeamLaws.{at-left, at-right}
 
@@ -64,20 +64,20 @@ start-both start h p i j k l s t =
     go m a b (yes q) = ap start (sym (at-left h p m q)) ∙ s .none m (omega arith) b
     go m a b (no q) = ap start (sym (at-right h p m (omega arith))) ∙ t .none (m - length h) (omega arith) (omega arith)
 
--- ---- what is seen of RTCM
+-- ---- what is candidate of RTCM
 
 module _ (t : List ℕ) (first : getD t 0 0 ≡ 0xD3) where
-  cut : length t < dataLength t + 6 → Incomplete ≡ seen rtcm t
-  unfolding seen rtcm
+  cut : length t < dataLength t + 6 → Incomplete ≡ candidate rtcm t
+  unfolding candidate rtcm
   cut l = rw (eq-eqb (getD t 0 0) 0xD3 first, lt-leb (dataLength t + 6) (length t) l)
 
   module _ (l : dataLength t + 6 ≤ length t) where
-    good : ownSum t ≡ sentSum t → Good (dataLength t + 6) ≡ seen rtcm t
-    unfolding seen rtcm
+    good : ownSum t ≡ sentSum t → Good (dataLength t + 6) ≡ candidate rtcm t
+    unfolding candidate rtcm
     good q = rw (eq-eqb (getD t 0 0) 0xD3 first, le-leb (dataLength t + 6) (length t) l, eq-eqb (ownSum t) (sentSum t) q)
 
-    bad : (ownSum t ≡ sentSum t → ⊥) → NotValid (dataLength t + 6) ≡ seen rtcm t
-    unfolding seen rtcm
+    bad : (ownSum t ≡ sentSum t → ⊥) → NotValid (dataLength t + 6) ≡ candidate rtcm t
+    unfolding candidate rtcm
     bad q = rw (eq-eqb (getD t 0 0) 0xD3 first, le-leb (dataLength t + 6) (length t) l, ne-eqb (ownSum t) (sentSum t) q)
 
 pub first-is : (s : List ℕ) (i : ℕ) → getD (drop i s) 0 0 ≡ getD s i 0
@@ -97,12 +97,12 @@ module _ (s : List ℕ) (i : ℕ) (e : getD s i 0 ≡ 0xD3) where
   start : getD (drop i s) 0 0 ≡ 0xD3
   start = first-is s i ∙ e
 
-  pub seen-few : length s < i + 6 → Incomplete ≡ seen rtcm (drop i s)
-  seen-few l = cut (drop i s) start (rw length-drop (omega arith))
+  pub candidate-few : length s < i + 6 → Incomplete ≡ candidate rtcm (drop i s)
+  candidate-few l = cut (drop i s) start (rw length-drop (omega arith))
 
   module _ (n : ℕ) (f : n ≡ dataLength (drop i s)) where
-    pub seen-cut : length s < i + (n + 6) → Incomplete ≡ seen rtcm (drop i s)
-    seen-cut l = cut (drop i s) start (rw (length-drop, ← f) (omega arith))
+    pub candidate-cut : length s < i + (n + 6) → Incomplete ≡ candidate rtcm (drop i s)
+    candidate-cut l = cut (drop i s) start (rw (length-drop, ← f) (omega arith))
 
     module _ (own sent : ℕ) (l : i + (n + 6) ≤ length s) (eo : own ≡ crc (take (n + 3) (drop i s))) (es : sent ≡ field s ((i + n + 3) * 8) 24) where
       own-is : ownSum (drop i s) ≡ own
@@ -116,28 +116,28 @@ module _ (s : List ℕ) (i : ℕ) (e : getD s i 0 ≡ 0xD3) where
       fits : dataLength (drop i s) + 6 ≤ length (drop i s)
       fits = rw (length-drop, ← f) (omega arith)
 
-      pub seen-good : own ≡ sent → Good (n + 6) ≡ seen rtcm (drop i s)
-      seen-good q = ap (λ k. Good (k + 6)) f ∙ good (drop i s) start fits (own-is ∙ q ∙ sym sent-is)
+      pub candidate-good : own ≡ sent → Good (n + 6) ≡ candidate rtcm (drop i s)
+      candidate-good q = ap (λ k. Good (k + 6)) f ∙ good (drop i s) start fits (own-is ∙ q ∙ sym sent-is)
 
-      pub seen-bad : (own ≡ sent → ⊥) → NotValid (n + 6) ≡ seen rtcm (drop i s)
-      seen-bad q = ap (λ k. NotValid (k + 6)) f ∙ bad (drop i s) start fits (λ r. q (sym own-is ∙ r ∙ sent-is))
+      pub candidate-bad : (own ≡ sent → ⊥) → NotValid (n + 6) ≡ candidate rtcm (drop i s)
+      candidate-bad q = ap (λ k. NotValid (k + 6)) f ∙ bad (drop i s) start fits (λ r. q (sym own-is ∙ r ∙ sent-is))
 
 -- ---- what it says, of any framing
 
 module _ {W K : Type 0} (F : Framing W K) where
   -- as the laws of a call take it
-  abbrev pub Says : List ℕ → Seen → Type 0
+  abbrev pub Says : List ℕ → Candidate → Type 0
   Says s Incomplete = length s < F .need s
   Says s (NotValid n) = (n ≡ F .need s) × (F .need s ≤ length s) × (w : W) × (F .verdict s ≡ Skip w)
   Says s (Good n) = (n ≡ F .need s) × (F .need s ≤ length s) × (k : K) × (F .verdict s ≡ Take k n)
 
   module _ (L : Lawful F) where
-    says-by : (s : List ℕ) (b : Bool) → leb (F .need s) (length s) ≡ b → (q : Decision W K) → F .verdict s ≡ q → Says s (seenBy (cond b q Wait) (F .need s))
+    says-by : (s : List ℕ) (b : Bool) → leb (F .need s) (length s) ≡ b → (q : Decision W K) → F .verdict s ≡ q → Says s (candidateBy (cond b q Wait) (F .need s))
     says-by s true e (Skip w) f = (refl, leb-true _ _ e, w, f)
     says-by s true e (Take k n) f = (L .taken s k n f, leb-true _ _ e, k, f)
     says-by s true e Wait f = absurd (L .decided s f)
     says-by s false e q f = leb-false _ _ e
 
-    pub says : (s : List ℕ) (r : Seen) → r ≡ seen F s → Says s r
-    unfolding seen
+    pub says : (s : List ℕ) (r : Candidate) → r ≡ candidate F s → Says s r
+    unfolding candidate
     says s r e = subst (Says s) (sym e) (says-by s (leb (F .need s) (length s)) refl (F .verdict s) refl)

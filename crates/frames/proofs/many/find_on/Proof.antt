@@ -5,14 +5,14 @@ use Prim.Native.Nat.{_+_, _-_, _≤_}
 use native.Mathlib.Omega.{arith}
 use lib.ListN.{length, length-append}
 use borrow.Author.Needs.{needs}
-use Rattle.frames.specs.declared.scan.Sight.the-variants.{Frame}
+use Rattle.frames.specs.declared.scan.Searched.the-variants.{Frame}
 use Rattle.frames.specs.Modes.{framingOf}
 use Rattle.frames.specs.Steps.{startsIn, Tails}
 use Rattle.frames.proofs.ModeLaws.{lawful}
 use Rattle.frames.proofs.StartLaws.{mode-starts}
-use Rattle.frames.proofs.LookLaws.{nearer, less-again, Came, all-skipped, no-start, waits, bad-fits, good-fits, passed, found}
-use Rattle.frames.proofs.many.look_on.Statement.{statement}
-use Rattle.frames.proofs.many.look_on.Tie as tie
+use Rattle.frames.proofs.FindLaws.{nearer, less-again, Came, all-skipped, no-start, waits, bad-fits, good-fits, passed, finds}
+use Rattle.frames.proofs.many.find_on.Statement.{statement}
+use Rattle.frames.proofs.many.find_on.Tie as tie
 
 abbrev Inv-loop : tie.InvT-loop
 Inv-loop held piece mode from first h all sums₀ base₀ stop₀ i₀ end₀ sums base stop i end =
@@ -45,11 +45,11 @@ slice-aggregate-cover c = search needs
 cover-requires : tie.Need-cover-requires Inv-loop μ-loop
 cover-requires c κs = let l = c .before .before .before .before .loop .inv in (omega arith, omega arith, l .3, omega (arith, l .1, c .before .before .next-start .ensures .from), l .2)
 
-slice-aggregate-seen-in : tie.Need-slice-aggregate-seen-in Inv-loop μ-loop
-slice-aggregate-seen-in c = search needs
+slice-aggregate-candidate-in : tie.Need-slice-aggregate-candidate-in Inv-loop μ-loop
+slice-aggregate-candidate-in c = search needs
 
-seen-in-requires : tie.Need-seen-in-requires Inv-loop μ-loop
-seen-in-requires c κs =
+candidate-in-requires : tie.Need-candidate-in-requires Inv-loop μ-loop
+candidate-in-requires c κs =
     let a = c .before .before .before .before .before .before .before .before .before .before .before .before .before .args in
     let w = c .before .before .cover .ensures in
     (omega arith, omega arith, c .before .before .before .before .before .next-start .ensures .there (omega (arith, length-append (a .held .now) (a .piece .now))), w .0, w .1, w .2)
@@ -58,13 +58,13 @@ enum-told : tie.Need-enum-told Inv-loop μ-loop
 enum-told c = search needs
 
 returns-2 : tie.Need-returns-2 Inv-loop μ-loop
-returns-2 c = waits _ _ _ _ _ _ _ _ (c .before .before .before .before .before .before .before .before .before .before .loop .inv .0) _ (c .before .before .before .before .before .before .before .before .next-start .ensures) (sym (c .enum-told .given .1) ∙ c .before .before .seen-in .ensures)
+returns-2 c = waits _ _ _ _ _ _ _ _ (c .before .before .before .before .before .before .before .before .before .before .loop .inv .0) _ (c .before .before .before .before .before .before .before .before .next-start .ensures) (sym (c .enum-told .given .1) ∙ c .before .before .candidate-in .ensures)
 
 enum-known-n : tie.Need-enum-known-n Inv-loop μ-loop
 enum-known-n c = search needs
 
 add-most : tie.Need-add-most Inv-loop μ-loop
-add-most c = record { fits = omega (arith, good-fits _ _ _ _ _ _ _ _ (c .before .before .before .before .before .before .before .before .before .before .before .loop .inv .0) _ (c .before .before .before .before .before .before .before .before .before .next-start .ensures) _ (sym (c .before .n .given .1) ∙ c .before .before .before .seen-in .ensures)) }
+add-most c = record { fits = omega (arith, good-fits _ _ _ _ _ _ _ _ (c .before .before .before .before .before .before .before .before .before .before .before .loop .inv .0) _ (c .before .before .before .before .before .before .before .before .before .next-start .ensures) _ (sym (c .before .n .given .1) ∙ c .before .before .before .candidate-in .ensures)) }
 
 most-requires : tie.Need-most-requires Inv-loop μ-loop
 most-requires c κs = search needs
@@ -76,13 +76,13 @@ returns-3 : tie.Need-returns-3 Inv-loop μ-loop
 returns-3 c =
     let a = c .before .before .before .before .before .before .before .before .before .before .before .before .before .before .before .before .before .before .args in
     let j = c .before .before .before .before .before .before .before .before .before .before .next-start in
-    ap (λ m. Frame (j .result) (c .before .before .n .given .0 .0) (m - length (a .held .now))) (c .most .ensures) ∙ found _ _ _ _ _ _ _ _ (c .before .before .before .before .before .before .before .before .before .before .before .before .loop .inv .0) _ (c .before .before .before .before .before .before .before .before .before .before .next-start .ensures) _ (sym (c .before .before .n .given .1) ∙ c .before .before .before .before .seen-in .ensures)
+    ap (λ m. Frame (j .result) (c .before .before .n .given .0 .0) (m - length (a .held .now))) (c .most .ensures) ∙ finds _ _ _ _ _ _ _ _ (c .before .before .before .before .before .before .before .before .before .before .before .before .loop .inv .0) _ (c .before .before .before .before .before .before .before .before .before .before .next-start .ensures) _ (sym (c .before .before .n .given .1) ∙ c .before .before .before .before .candidate-in .ensures)
 
 enum-known-n-2 : tie.Need-enum-known-n-2 Inv-loop μ-loop
 enum-known-n-2 c = search needs
 
 add-most-2 : tie.Need-add-most-2 Inv-loop μ-loop
-add-most-2 c = record { fits = omega (arith, bad-fits _ _ _ _ _ _ _ _ (c .before .before .before .before .before .before .before .before .before .before .before .loop .inv .0) _ (c .before .before .before .before .before .before .before .before .before .next-start .ensures) _ (sym (c .before .n2 .given .1) ∙ c .before .before .before .seen-in .ensures)) }
+add-most-2 c = record { fits = omega (arith, bad-fits _ _ _ _ _ _ _ _ (c .before .before .before .before .before .before .before .before .before .before .before .loop .inv .0) _ (c .before .before .before .before .before .before .before .before .before .next-start .ensures) _ (sym (c .before .n2 .given .1) ∙ c .before .before .before .candidate-in .ensures)) }
 
 most-requires-2 : tie.Need-most-requires-2 Inv-loop μ-loop
 most-requires-2 c κs = search needs
@@ -96,13 +96,13 @@ loop-less c = nearer _ _ _ (c .before .before .before .before .before .before .b
 loop-again : tie.Need-loop-again Inv-loop μ-loop
 loop-again c =
     let w = c .before .before .before .before .before .before .before .cover .ensures in
-    (subst (Came _ _ _ _ _ _ _) (sym (c .most2 .ensures)) (passed _ _ _ _ _ _ _ _ (c .before .before .before .before .before .before .before .before .before .before .before .before .loop .inv .0) _ (c .before .before .before .before .before .before .before .before .before .before .next-start .ensures) _ (sym (c .before .before .n2 .given .1) ∙ c .before .before .before .before .seen-in .ensures)), less-again _ _ (w .0), w .2, w .3)
+    (subst (Came _ _ _ _ _ _ _) (sym (c .most2 .ensures)) (passed _ _ _ _ _ _ _ _ (c .before .before .before .before .before .before .before .before .before .before .before .before .loop .inv .0) _ (c .before .before .before .before .before .before .before .before .before .before .next-start .ensures) _ (sym (c .before .before .n2 .given .1) ∙ c .before .before .before .before .candidate-in .ensures)), less-again _ _ (w .0), w .2, w .3)
 
 returns-4 : tie.Need-returns-4 Inv-loop μ-loop
 returns-4 c = all-skipped _ _ _ _ _ _ _ _ (c .before .loop .inv .0) (omega arith)
 
-pub look-on-spec : {M : Type 1} → statement M
-look-on-spec =
+pub find-on-spec : {M : Type 1} → statement M
+find-on-spec =
     tie.close
     (tie.spec
     Inv-loop
@@ -115,8 +115,8 @@ look-on-spec =
     returns
     slice-aggregate-cover
     cover-requires
-    slice-aggregate-seen-in
-    seen-in-requires
+    slice-aggregate-candidate-in
+    candidate-in-requires
     enum-told
     returns-2
     enum-known-n

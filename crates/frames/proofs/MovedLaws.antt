@@ -15,9 +15,9 @@ use Rattle.frames.specs.Modes.{framingOf}
 use Rattle.frames.specs.Feed as fed
 use Rattle.frames.specs.Feed.{Fed, feed}
 use Rattle.frames.specs.Call.{Scanner, heldFrom, onwards, More, Frame, called, feedOf}
-use Rattle.frames.specs.Steps.{sight, Movable, kindAt, movedFrame, moved}
-use Rattle.frames.specs.declared.scan.Sight.{Sight}
-use Rattle.frames.specs.declared.scan.Sight.the-variants as s
+use Rattle.frames.specs.Steps.{searched, CanHold, kindAt, movedFrame, moved}
+use Rattle.frames.specs.declared.scan.Searched.{Searched}
+use Rattle.frames.specs.declared.scan.Searched.the-variants as s
 use Rattle.frames.proofs.KeptLaws.{Kept, kept, HeldWithin, bytes-alone, rest-is, front-is, back-is}
 use Rattle.frames.proofs.CallLaws.{Fits, accepted}
 use Rattle.frames.proofs.AnswerLaws.{held-count, stays-within}
@@ -29,16 +29,16 @@ module _ (a : List ℕ) (x : Scanner) (p o : List ℕ) (count : length (take (x 
   h = take (x .count) a
 
   -- and what is then left can be held
-  pub movable : {W K : Type 0} (r : Fed W K) → Kept h p r → HeldWithin 1029 r → Movable 1029 (x .count) (length p) (sight r)
-  movable (fed.More t is g) k w =
+  pub can-hold : {W K : Type 0} (r : Fed W K) → Kept h p r → HeldWithin 1029 r → CanHold 1029 (x .count) (length p) (searched r)
+  can-hold (fed.More t is g) k w =
       let e = simp (length-append, count) at (ap length (k .1 .bytes)) in
       (omega (arith, e, bytes-alone is (k .1 .none)), omega (arith, e, bytes-alone is (k .1 .none)))
-  movable (fed.Frame t is j f g) k w =
+  can-hold (fed.Frame t is j f g) k w =
       let e = simp (length-append, length-take-le t p (k .0), count) at (ap length (k .1 .bytes)) in
       (k .0, omega (arith, e, bytes-alone is (k .1 .none)), omega (arith, e, bytes-alone is (k .1 .none), simp length-append at w))
 
   -- the moves make what the call gives
-  pub makes : {W : Type 0} (r : Fed W Kind) → Kept h p r → KindFed r → moved a x p o (sight r) ≡ called r x a o
+  pub makes : {W : Type 0} (r : Fed W Kind) → Kept h p r → KindFed r → moved a x p o (searched r) ≡ called r x a o
   makes (fed.More t is g) k y =
       let l = simp (length-append, count) at (ap length (k .1 .bytes)) in
       let e : x .count + length p - length is ≡ length g = omega (arith, l, bytes-alone is (k .1 .none)) in
@@ -56,22 +56,22 @@ module _ (a : List ℕ) (x : Scanner) (p o : List ℕ) (count : length (take (x 
 -- ---- a call that is accepted, by the search of its held bytes and its piece
 
 module _ (mode : ℕ) (a : List ℕ) (x : Scanner) (p o : List ℕ) (f : Fits a x p o)
-    (r : Sight) (e : r ≡ sight (feed (decide (framingOf mode)) (take (x .count - 0) a) p)) where
-  same : r ≡ sight (feed (decide (framingOf mode)) (take (x .count) a) p)
+    (r : Searched) (e : r ≡ searched (feed (decide (framingOf mode)) (take (x .count - 0) a) p)) where
+  same : r ≡ searched (feed (decide (framingOf mode)) (take (x .count) a) p)
   same = rw sub-zero at e
 
   held : length (take (x .count) a) ≡ x .count
   held = held-count (framingOf mode) a x p o f
 
   -- the places that the search found are there
-  pub found-movable : Movable (length a) (x .count) (length p) r
-  found-movable =
+  pub searched-can-hold : CanHold (length a) (x .count) (length p) r
+  searched-can-hold =
       rw (same, f .area)
-      (movable a x p o held (feed (decide (framingOf mode)) (take (x .count) a) p) (kept (decide (framingOf mode)) p (take (x .count) a)) (stays-within (framingOf mode) a x p o (lawful mode) f))
+      (can-hold a x p o held (feed (decide (framingOf mode)) (take (x .count) a) p) (kept (decide (framingOf mode)) p (take (x .count) a)) (stays-within (framingOf mode) a x p o (lawful mode) f))
 
   -- and moving by them is the call
-  pub found-moved : moved a x p o r ≡ feedOf (framingOf mode) a x p o
-  found-moved =
+  pub searched-moves : moved a x p o r ≡ feedOf (framingOf mode) a x p o
+  searched-moves =
       ap (moved a x p o) same
       ∙ makes a x p o held (feed (decide (framingOf mode)) (take (x .count) a) p) (kept (decide (framingOf mode)) p (take (x .count) a)) (kind-fed mode p (take (x .count) a))
       ∙ sym (accepted (framingOf mode) a x p o f)

@@ -8,11 +8,11 @@ use lib.ListN.{length, getD, drop, length-append}
 use Rattle.frames.specs.Scan.{Skip}
 use Rattle.frames.specs.Framing.{Framing, Lawful, decide}
 use Rattle.frames.specs.Feed.{feed}
-use Rattle.frames.specs.Steps.{Start, seen, sight}
-use Rattle.frames.specs.declared.scan.Seen.the-variants.{Incomplete, NotValid, Good}
-use Rattle.frames.specs.declared.scan.Sight.the-variants.{More, Frame}
+use Rattle.frames.specs.Steps.{Start, candidate, searched}
+use Rattle.frames.specs.declared.scan.Candidate.the-variants.{Incomplete, NotValid, Good}
+use Rattle.frames.specs.declared.scan.Searched.the-variants.{More, Frame}
 use Rattle.frames.proofs.SeamLaws.{length-from}
-use Rattle.frames.proofs.SeenLaws.{Says, says, first-is}
+use Rattle.frames.proofs.CandidateLaws.{Says, says, first-is}
 use Rattle.frames.proofs.StartLaws.{Starts}
 use Rattle.frames.proofs.TurnLaws.{Reached, reached-start, turn-short, turn-skip, turn-take, turn-run}
 
@@ -54,7 +54,7 @@ module _ {W K : Type 0} (F : Framing W K) (L : Lawful F) (start : ℕ → Bool) 
 
   module _ (i e : ℕ) (c : Came i e) where
     -- all was skipped
-    pub all-skipped : length h + length p ≤ i → More i ≡ sight (feed (decide F) h p)
+    pub all-skipped : length h + length p ≤ i → More i ≡ searched (feed (decide F) h p)
     all-skipped l = turn-short F h p L i (e - length h) (c .reached) (omega (arith, L .needs (drop i (h ++ p))))
 
     module _ (j : ℕ) (s : Start start (h ++ p) i j) where
@@ -71,28 +71,28 @@ module _ {W K : Type 0} (F : Framing W K) (L : Lawful F) (start : ℕ → Bool) 
           (λ k a b. not-start (h ++ p) k (s .none k (omega arith) a)))
 
       -- no start is left
-      pub no-start : length h + length p ≤ j → More j ≡ sight (feed (decide F) h p)
+      pub no-start : length h + length p ≤ j → More j ≡ searched (feed (decide F) h p)
       no-start l = turn-short F h p L j (max (e - length h) (j - length h)) to-start (omega (arith, L .needs (drop j (h ++ p))))
 
       -- what is left waits
-      pub waits : Incomplete ≡ seen F (drop j (h ++ p)) → More j ≡ sight (feed (decide F) h p)
+      pub waits : Incomplete ≡ candidate F (drop j (h ++ p)) → More j ≡ searched (feed (decide F) h p)
       waits q =
           let w : Says F (drop j (h ++ p)) Incomplete = says F L (drop j (h ++ p)) Incomplete q in
           turn-short F h p L j (max (e - length h) (j - length h)) to-start (omega (arith, length-from h p j))
 
       module _ (n : ℕ) where
-        pub bad-fits : NotValid n ≡ seen F (drop j (h ++ p)) → j + n ≤ length h + length p
+        pub bad-fits : NotValid n ≡ candidate F (drop j (h ++ p)) → j + n ≤ length h + length p
         bad-fits q =
             let w : Says F (drop j (h ++ p)) (NotValid n) = says F L (drop j (h ++ p)) (NotValid n) q in
             omega (arith, length-from h p j, within, w .0, w .1)
 
-        pub good-fits : Good n ≡ seen F (drop j (h ++ p)) → j + n ≤ length h + length p
+        pub good-fits : Good n ≡ candidate F (drop j (h ++ p)) → j + n ≤ length h + length p
         good-fits q =
             let w : Says F (drop j (h ++ p)) (Good n) = says F L (drop j (h ++ p)) (Good n) q in
             omega (arith, length-from h p j, within, w .0, w .1)
 
         -- the start byte is skipped
-        pub passed : NotValid n ≡ seen F (drop j (h ++ p)) → Came (j + 1) (max e (j + n))
+        pub passed : NotValid n ≡ candidate F (drop j (h ++ p)) → Came (j + 1) (max e (j + n))
         passed q =
             let w : Says F (drop j (h ++ p)) (NotValid n) = says F L (drop j (h ++ p)) (NotValid n) q in
             record {
@@ -103,8 +103,8 @@ module _ {W K : Type 0} (F : Framing W K) (L : Lawful F) (start : ℕ → Bool) 
             }
 
         -- the frame is handed out
-        pub found : Good n ≡ seen F (drop j (h ++ p)) → Frame j n (max e (j + n) - length h) ≡ sight (feed (decide F) h p)
-        found q =
+        pub finds : Good n ≡ candidate F (drop j (h ++ p)) → Frame j n (max e (j + n) - length h) ≡ searched (feed (decide F) h p)
+        finds q =
             let w : Says F (drop j (h ++ p)) (Good n) = says F L (drop j (h ++ p)) (Good n) q in
             turn-take F h p L j (max (e - length h) (j - length h)) to-start n (max e (j + n) - length h) (w .2)
             (w .0, good-fits q, taken-more (length h) e j n (c .behind)) (w .3)

@@ -10,8 +10,8 @@ use Rattle.frames.specs.Steps.{startsIn}
 use Rattle.frames.proofs.ModeLaws.{lawful}
 use Rattle.frames.proofs.StartLaws.{mode-starts}
 use Rattle.frames.proofs.EndLaws.{Past, past-none, past-all, past-start, past-cut, past-bad, past-good}
-use Rattle.frames.proofs.scan.look_last.Statement.{statement}
-use Rattle.frames.proofs.scan.look_last.Tie as tie
+use Rattle.frames.proofs.scan.find_at_end.Statement.{statement}
+use Rattle.frames.proofs.scan.find_at_end.Tie as tie
 
 abbrev Inv-loop : tie.InvT-loop
 Inv-loop held mode all i₀ i = Past (framingOf mode) held i
@@ -28,23 +28,23 @@ next-in-requires c κs = search needs
 returns : tie.Need-returns Inv-loop μ-loop
 returns c = let a = c .before .before .before .before .before .args in past-all (framingOf (a .mode)) (a .held .now) _ (past-start (framingOf (a .mode)) (a .held .now) (lawful (a .mode)) (startsIn (a .mode)) (mode-starts (a .mode)) _ (c .before .before .before .loop .inv) _ (c .before .next-in .ensures)) (omega arith)
 
-sub-seen-at : tie.Need-sub-seen-at Inv-loop μ-loop
-sub-seen-at c = search needs
+sub-candidate-at : tie.Need-sub-candidate-at Inv-loop μ-loop
+sub-candidate-at c = search needs
 
-part-seen-at-start : tie.Need-part-seen-at-start Inv-loop μ-loop
-part-seen-at-start c = search needs
+part-candidate-at-start : tie.Need-part-candidate-at-start Inv-loop μ-loop
+part-candidate-at-start c = search needs
 
-part-seen-at-end : tie.Need-part-seen-at-end Inv-loop μ-loop
-part-seen-at-end c = search needs
+part-candidate-at-end : tie.Need-part-candidate-at-end Inv-loop μ-loop
+part-candidate-at-end c = search needs
 
-seen-at-requires : tie.Need-seen-at-requires Inv-loop μ-loop
-seen-at-requires c κs = let a = c .before .before .before .before .before .before .args in (omega arith, omega arith, ap (λ z. startsIn (a .mode) (getD z (c .before .before .next-in .result) 0)) (append-nil (a .held .now)) ∙ c .before .before .next-in .ensures .there (omega arith))
+candidate-at-requires : tie.Need-candidate-at-requires Inv-loop μ-loop
+candidate-at-requires c κs = let a = c .before .before .before .before .before .before .args in (omega arith, omega arith, ap (λ z. startsIn (a .mode) (getD z (c .before .before .next-in .result) 0)) (append-nil (a .held .now)) ∙ c .before .before .next-in .ensures .there (omega arith))
 
 enum-known-n : tie.Need-enum-known-n Inv-loop μ-loop
 enum-known-n c = search needs
 
 returns-2 : tie.Need-returns-2 Inv-loop μ-loop
-returns-2 c = let a = c .before .before .before .before .before .before .before .before .before .before .args in past-good (framingOf (a .mode)) (a .held .now) (lawful (a .mode)) (startsIn (a .mode)) (mode-starts (a .mode)) _ (c .before .before .before .before .before .before .before .before .loop .inv) _ (c .before .before .before .before .before .before .next-in .ensures) (omega arith) _ (sym (c .before .n .given .1) ∙ c .before .before .before .seen-at .ensures)
+returns-2 c = let a = c .before .before .before .before .before .before .before .before .before .before .args in past-good (framingOf (a .mode)) (a .held .now) (lawful (a .mode)) (startsIn (a .mode)) (mode-starts (a .mode)) _ (c .before .before .before .before .before .before .before .before .loop .inv) _ (c .before .before .before .before .before .before .next-in .ensures) (omega arith) _ (sym (c .before .n .given .1) ∙ c .before .before .before .candidate-at .ensures)
 
 enum-told : tie.Need-enum-told Inv-loop μ-loop
 enum-told c = search needs
@@ -56,7 +56,7 @@ loop-less : tie.Need-loop-less Inv-loop μ-loop
 loop-less c = omega (arith, c .before .before .before .before .before .next-in .ensures .from)
 
 loop-again : tie.Need-loop-again Inv-loop μ-loop
-loop-again c = let a = c .before .before .before .before .before .before .before .before .before .args in past-bad (framingOf (a .mode)) (a .held .now) (lawful (a .mode)) (startsIn (a .mode)) (mode-starts (a .mode)) _ (c .before .before .before .before .before .before .before .loop .inv) _ (c .before .before .before .before .before .next-in .ensures) (omega arith) _ (sym (c .enum-told .given .1) ∙ c .before .before .seen-at .ensures)
+loop-again c = let a = c .before .before .before .before .before .before .before .before .before .args in past-bad (framingOf (a .mode)) (a .held .now) (lawful (a .mode)) (startsIn (a .mode)) (mode-starts (a .mode)) _ (c .before .before .before .before .before .before .before .loop .inv) _ (c .before .before .before .before .before .next-in .ensures) (omega arith) _ (sym (c .enum-told .given .1) ∙ c .before .before .candidate-at .ensures)
 
 enum-told-2 : tie.Need-enum-told-2 Inv-loop μ-loop
 enum-told-2 c = search needs
@@ -68,13 +68,13 @@ loop-less-2 : tie.Need-loop-less-2 Inv-loop μ-loop
 loop-less-2 c = omega (arith, c .before .before .before .before .before .next-in .ensures .from)
 
 loop-again-2 : tie.Need-loop-again-2 Inv-loop μ-loop
-loop-again-2 c = let a = c .before .before .before .before .before .before .before .before .before .args in past-cut (framingOf (a .mode)) (a .held .now) (lawful (a .mode)) (startsIn (a .mode)) (mode-starts (a .mode)) _ (c .before .before .before .before .before .before .before .loop .inv) _ (c .before .before .before .before .before .next-in .ensures) (omega arith) (sym (c .enum-told2 .given .1) ∙ c .before .before .seen-at .ensures)
+loop-again-2 c = let a = c .before .before .before .before .before .before .before .before .before .args in past-cut (framingOf (a .mode)) (a .held .now) (lawful (a .mode)) (startsIn (a .mode)) (mode-starts (a .mode)) _ (c .before .before .before .before .before .before .before .loop .inv) _ (c .before .before .before .before .before .next-in .ensures) (omega arith) (sym (c .enum-told2 .given .1) ∙ c .before .before .candidate-at .ensures)
 
 returns-3 : tie.Need-returns-3 Inv-loop μ-loop
 returns-3 c = past-all _ _ _ (c .before .loop .inv) (omega arith)
 
-pub look-last-spec : {M : Type 1} → statement M
-look-last-spec =
+pub find-at-end-spec : {M : Type 1} → statement M
+find-at-end-spec =
     tie.close
     (tie.spec
     Inv-loop
@@ -82,10 +82,10 @@ look-last-spec =
     loop-holds
     next-in-requires
     returns
-    sub-seen-at
-    part-seen-at-start
-    part-seen-at-end
-    seen-at-requires
+    sub-candidate-at
+    part-candidate-at-start
+    part-candidate-at-end
+    candidate-at-requires
     enum-known-n
     returns-2
     enum-told

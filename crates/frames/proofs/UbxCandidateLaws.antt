@@ -14,49 +14,49 @@ use Rattle.frames.specs.Rtcm.{rtcm}
 use Rattle.frames.specs.Ubx.{ubx, payload, sums, sameSums, sentSums, ownSums}
 use Rattle.frames.specs.Either.{either}
 use Rattle.frames.specs.Modes.{both, framingOf}
-use Rattle.frames.specs.Steps.{seen, startsIn}
-use Rattle.frames.specs.declared.scan.Seen.the-variants.{Incomplete, NotValid, Good}
-use Rattle.frames.proofs.SeenLaws.{first-is}
+use Rattle.frames.specs.Steps.{candidate, startsIn}
+use Rattle.frames.specs.declared.scan.Candidate.the-variants.{Incomplete, NotValid, Good}
+use Rattle.frames.proofs.CandidateLaws.{first-is}
 
 -- ---- the cases, at the front
 
 module _ (t : List ℕ) (first : getD t 0 0 ≡ 0xB5) where
   -- B5 alone
-  alone : 1 ≤ length t → length t < 2 → Incomplete ≡ seen ubx t
-  unfolding seen ubx
+  alone : 1 ≤ length t → length t < 2 → Incomplete ≡ candidate ubx t
+  unfolding candidate ubx
   alone h l =
       let z : getD t 1 0 ≡ 0 = List·getD-eq-default t 0 (omega arith) in
       rw (eq-eqb (getD t 0 0) 0xB5 first, z, lt-leb 2 (length t) l)
 
   -- another byte than 62 follows
-  other : 2 ≤ length t → (getD t 1 0 ≡ 0x62 → ⊥) → NotValid 2 ≡ seen ubx t
-  unfolding seen ubx
+  other : 2 ≤ length t → (getD t 1 0 ≡ 0x62 → ⊥) → NotValid 2 ≡ candidate ubx t
+  unfolding candidate ubx
   other h n = rw (eq-eqb (getD t 0 0) 0xB5 first, ne-eqb (getD t 1 0) 0x62 n, le-leb 2 (length t) h)
 
   module _ (second : getD t 1 0 ≡ 0x62) where
     -- the length is not there yet
-    few : length t < 6 → Incomplete ≡ seen ubx t
-    unfolding seen ubx
+    few : length t < 6 → Incomplete ≡ candidate ubx t
+    unfolding candidate ubx
     few l =
         let z : getD t 5 255 ≡ 255 = List·getD-eq-default t 255 (omega arith) in
         rw (eq-eqb (getD t 0 0) 0xB5 first, eq-eqb (getD t 1 0) 0x62 second, lt-ltb 1021 (payload t) (omega arith), lt-leb 6 (length t) l)
 
-    long : 6 ≤ length t → 1021 < payload t → NotValid 6 ≡ seen ubx t
-    unfolding seen ubx
+    long : 6 ≤ length t → 1021 < payload t → NotValid 6 ≡ candidate ubx t
+    unfolding candidate ubx
     long h l = rw (eq-eqb (getD t 0 0) 0xB5 first, eq-eqb (getD t 1 0) 0x62 second, lt-ltb 1021 (payload t) l, le-leb 6 (length t) h)
 
     module _ (l : payload t ≤ 1021) where
-      cut : length t < payload t + 8 → Incomplete ≡ seen ubx t
-      unfolding seen ubx
+      cut : length t < payload t + 8 → Incomplete ≡ candidate ubx t
+      unfolding candidate ubx
       cut h = rw (eq-eqb (getD t 0 0) 0xB5 first, eq-eqb (getD t 1 0) 0x62 second, le-ltb 1021 (payload t) l, lt-leb (payload t + 8) (length t) h)
 
       module _ (h : payload t + 8 ≤ length t) where
-        good : sameSums (sentSums t) (ownSums t) ≡ true → Good (payload t + 8) ≡ seen ubx t
-        unfolding seen ubx
+        good : sameSums (sentSums t) (ownSums t) ≡ true → Good (payload t + 8) ≡ candidate ubx t
+        unfolding candidate ubx
         good q = rw (eq-eqb (getD t 0 0) 0xB5 first, eq-eqb (getD t 1 0) 0x62 second, le-ltb 1021 (payload t) l, le-leb (payload t + 8) (length t) h, q)
 
-        bad : sameSums (sentSums t) (ownSums t) ≡ false → NotValid (payload t + 8) ≡ seen ubx t
-        unfolding seen ubx
+        bad : sameSums (sentSums t) (ownSums t) ≡ false → NotValid (payload t + 8) ≡ candidate ubx t
+        unfolding candidate ubx
         bad q = rw (eq-eqb (getD t 0 0) 0xB5 first, eq-eqb (getD t 1 0) 0x62 second, le-ltb 1021 (payload t) l, le-leb (payload t + 8) (length t) h, q)
 
 -- ---- the same at a place, by what the code reads there
@@ -79,17 +79,17 @@ module _ (s : List ℕ) (i : ℕ) (e : getD s i 0 ≡ 0xB5) where
   start : getD (drop i s) 0 0 ≡ 0xB5
   start = first-is s i ∙ e
 
-  pub ubx-alone : i < length s → length s < i + 2 → Incomplete ≡ seen ubx (drop i s)
+  pub ubx-alone : i < length s → length s < i + 2 → Incomplete ≡ candidate ubx (drop i s)
   ubx-alone h l = alone (drop i s) start (rw length-drop (omega arith)) (rw length-drop (omega arith))
 
-  pub ubx-other : i + 2 ≤ length s → (getD s (i + 1) 0 ≡ 0x62 → ⊥) → NotValid 2 ≡ seen ubx (drop i s)
+  pub ubx-other : i + 2 ≤ length s → (getD s (i + 1) 0 ≡ 0x62 → ⊥) → NotValid 2 ≡ candidate ubx (drop i s)
   ubx-other h n = other (drop i s) start (rw length-drop (omega arith)) (λ q. n (sym (at-place s i 1) ∙ q))
 
   module _ (f : getD s (i + 1) 0 ≡ 0x62) where
     second : getD (drop i s) 1 0 ≡ 0x62
     second = at-place s i 1 ∙ f
 
-    pub ubx-few : length s < i + 6 → Incomplete ≡ seen ubx (drop i s)
+    pub ubx-few : length s < i + 6 → Incomplete ≡ candidate ubx (drop i s)
     ubx-few l = few (drop i s) start second (rw length-drop (omega arith))
 
     -- the payload is n bytes long
@@ -100,14 +100,14 @@ module _ (s : List ℕ) (i : ℕ) (e : getD s i 0 ≡ 0xB5) where
           let b : getD (drop i s) 5 255 ≡ getD s (i + 5) 0 = there-reads (drop i s) 5 255 0 (rw length-drop (omega arith)) ∙ at-place s i 5 in
           omega arith
 
-      pub ubx-long : 1021 < n → NotValid 6 ≡ seen ubx (drop i s)
+      pub ubx-long : 1021 < n → NotValid 6 ≡ candidate ubx (drop i s)
       ubx-long l = long (drop i s) start second (rw length-drop (omega arith)) (omega (arith, payload-is))
 
       module _ (l : n ≤ 1021) where
         fits : payload (drop i s) ≤ 1021
         fits = omega (arith, payload-is)
 
-        pub ubx-cut : length s < i + (n + 8) → Incomplete ≡ seen ubx (drop i s)
+        pub ubx-cut : length s < i + (n + 8) → Incomplete ≡ candidate ubx (drop i s)
         ubx-cut k = cut (drop i s) start second fits (rw (payload-is, length-drop) (omega arith))
 
         -- the sums computed are a and b
@@ -135,44 +135,44 @@ module _ (s : List ℕ) (i : ℕ) (e : getD s i 0 ≡ 0xB5) where
           told : (m : ℕ) → m ≡ n → m + 8 ≡ n + 8
           told m q = rw q
 
-          pub ubx-first-bad : (getD s (i + n + 6) 0 ≡ a → ⊥) → NotValid (n + 8) ≡ seen ubx (drop i s)
+          pub ubx-first-bad : (getD s (i + n + 6) 0 ≡ a → ⊥) → NotValid (n + 8) ≡ candidate ubx (drop i s)
           ubx-first-bad q =
               ap NotValid (sym (told _ payload-is)) ∙ bad (drop i s) start second fits whole (same-is ∙ rw (ne-eqb (getD s (i + n + 6) 0) a q))
 
           module _ (p : getD s (i + n + 6) 0 ≡ a) where
-            pub ubx-second-bad : (getD s (i + n + 7) 0 ≡ b → ⊥) → NotValid (n + 8) ≡ seen ubx (drop i s)
+            pub ubx-second-bad : (getD s (i + n + 7) 0 ≡ b → ⊥) → NotValid (n + 8) ≡ candidate ubx (drop i s)
             ubx-second-bad q =
                 ap NotValid (sym (told _ payload-is)) ∙ bad (drop i s) start second fits whole (same-is ∙ rw (eq-eqb (getD s (i + n + 6) 0) a p, ne-eqb (getD s (i + n + 7) 0) b q))
 
-            pub ubx-good : getD s (i + n + 7) 0 ≡ b → Good (n + 8) ≡ seen ubx (drop i s)
+            pub ubx-good : getD s (i + n + 7) 0 ≡ b → Good (n + 8) ≡ candidate ubx (drop i s)
             ubx-good q =
                 ap Good (sym (told _ payload-is)) ∙ good (drop i s) start second fits whole (same-is ∙ rw (eq-eqb (getD s (i + n + 6) 0) a p, eq-eqb (getD s (i + n + 7) 0) b q))
 
 -- ---- each mode decides by the framing of the start byte
 
-by-b5 : (t : List ℕ) → getD t 0 0 ≡ 0xB5 → seen ubx t ≡ seen both t
-unfolding seen either
+by-b5 : (t : List ℕ) → getD t 0 0 ≡ 0xB5 → candidate ubx t ≡ candidate both t
+unfolding candidate either
 by-b5 t e = rw (eq-eqb (getD t 0 0) 0xB5 e)
 
-by-d3 : (t : List ℕ) → (getD t 0 0 ≡ 0xB5 → ⊥) → seen rtcm t ≡ seen both t
-unfolding seen either
+by-d3 : (t : List ℕ) → (getD t 0 0 ≡ 0xB5 → ⊥) → candidate rtcm t ≡ candidate both t
+unfolding candidate either
 by-d3 t n = rw (ne-eqb (getD t 0 0) 0xB5 n)
 
 module _ (mode : ℕ) (t : List ℕ) where
   -- for RTCM only
-  pub only-rtcm : mode ≡ 0 → seen rtcm t ≡ seen (framingOf mode) t
+  pub only-rtcm : mode ≡ 0 → candidate rtcm t ≡ candidate (framingOf mode) t
   only-rtcm e = rw (eq-eqb mode 0 e)
 
   module _ (n : mode ≡ 0 → ⊥) where
-    seen-both : seen both t ≡ seen (framingOf mode) t
-    seen-both = rw (ne-eqb mode 0 n)
+    candidate-both : candidate both t ≡ candidate (framingOf mode) t
+    candidate-both = rw (ne-eqb mode 0 n)
 
-    pub at-b5 : getD t 0 0 ≡ 0xB5 → seen ubx t ≡ seen (framingOf mode) t
-    at-b5 e = by-b5 t e ∙ seen-both
+    pub at-b5 : getD t 0 0 ≡ 0xB5 → candidate ubx t ≡ candidate (framingOf mode) t
+    at-b5 e = by-b5 t e ∙ candidate-both
 
     module _ (e : getD t 0 0 ≡ 0xB5 → ⊥) where
-      pub at-d3 : seen rtcm t ≡ seen (framingOf mode) t
-      at-d3 = by-d3 t e ∙ seen-both
+      pub at-d3 : candidate rtcm t ≡ candidate (framingOf mode) t
+      at-d3 = by-d3 t e ∙ candidate-both
 
 -- a start byte of RTCM only is D3, and so is one of both kinds that is not B5
 pub only-d3 : (mode x : ℕ) → mode ≡ 0 → startsIn mode x ≡ true → x ≡ 0xD3
