@@ -15,12 +15,13 @@ use Rattle.frames.specs.Scan.{Decision, Skip, Take, Wait}
 use Rattle.frames.specs.Framing.{decide}
 use Rattle.frames.specs.Frame.{dataLength, sentSum, ownSum, Whole, check}
 use Rattle.frames.specs.Rtcm.{Why, NotD3, BadCheck, OfUbx, Kind, rtcm, atD3, decideAt}
+use Rattle.frames.specs.Modes.{framingOf}
 use Rattle.frames.specs.Close.{Gave, Judged, Unfinished, final, closing}
 use Rattle.frames.proofs.FrameLaws.{too-few, is-cut, sums-differ, sums-agree}
 use Rattle.frames.proofs.RtcmLaws.{decides-at}
 use Rattle.frames.proofs.StandLaws.{Tells, reason-tells}
 use Rattle.frames.proofs.FateLaws.{checked-all}
-use Rattle.closing.specs.Reason.{Ruled, GivenUp, Starts, ruled, ruledAt, toldRuled, Sort, NoD3, Wrong, sortOf, byByte, toldSkip}
+use Rattle.closing.specs.Reason.{Ruled, GivenUp, Starts, ruled, ruledAt, toldRuled, Sort, NoD3, Wrong, WrongUbx, sortOf, byByte, toldSkip}
 use Rattle.closing.specs.declared.reason.Ruled as code
 use Rattle.closing.specs.declared.reason.Ruled.the-variants as R
 use Rattle.closing.specs.declared.reason.Skip as skips
@@ -95,20 +96,24 @@ ruled-behind s n i h = go (decLt (n + i) (length s))
 
 -- ---- in feeding the byte tells
 
-module _ (x : ℕ) where
-  by-tells : (w : Why) → Tells (Judged w) x → sortOf w ≡ byByte x
-  by-tells NotD3 t = rw (ne-eqb x 0xD3 t)
+module _ (mode x : ℕ) where
+  no-start : (x ≡ 0xD3 → ⊥) → (x ≡ 0xB5 → mode ≡ 0) → Dec (mode ≡ 0) → NoD3 ≡ byByte mode x
+  no-start d b (yes m) = rw (ne-eqb x 0xD3 d, eq-eqb mode 0 m)
+  no-start d b (no m) = rw (ne-eqb x 0xD3 d, ne-eqb mode 0 m, ne-eqb x 0xB5 (λ e. m (b e)))
+
+  by-tells : (w : Why) → Tells mode (Judged w) x → sortOf w ≡ byByte mode x
+  by-tells NotD3 t = no-start (t .0) (t .1) (ℕ-discrete mode 0)
   by-tells (BadCheck a b) t = rw (eq-eqb x 0xD3 t)
-  by-tells (OfUbx u) t = absurd t
+  by-tells (OfUbx u) t = rw (ne-eqb x 0xD3 (λ e. omega (arith, t .0)), ne-eqb mode 0 (t .1), eq-eqb x 0xB5 (t .0))
 
-  -- A BYTE THAT FEEDING SKIPS tells by itself whether it was not D3 or had a bad check.
-  pub byte-tells : (xs : List ℕ) (w : Why) → decide rtcm (x ∷ xs) ≡ Skip w → sortOf w ≡ byByte x
-  byte-tells xs w e = by-tells w (reason-tells x (Judged w) xs (ap final e))
+  -- A BYTE THAT FEEDING SKIPS tells by itself, in every mode, whether it starts no frame, had a bad check or starts no good UBX frame.
+  pub byte-tells : (xs : List ℕ) (w : Why) → decide (framingOf mode) (x ∷ xs) ≡ Skip w → sortOf w ≡ byByte mode x
+  byte-tells xs w e = by-tells w (reason-tells mode x (Judged w) xs (ap final e))
 
-pub is-wrong : (x : ℕ) → x ≡ 0xD3 → Wrong ≡ byByte x
+pub is-wrong : (x : ℕ) → x ≡ 0xD3 → Wrong ≡ byByte 0 x
 is-wrong x e = rw (eq-eqb x 0xD3 e)
 
-pub is-no-d3 : (x : ℕ) → (x ≡ 0xD3 → ⊥) → NoD3 ≡ byByte x
+pub is-no-d3 : (x : ℕ) → (x ≡ 0xD3 → ⊥) → NoD3 ≡ byByte 0 x
 is-no-d3 x n = rw (ne-eqb x 0xD3 n)
 
 -- ---- an answer of the code is fixed by what it tells
@@ -139,6 +144,7 @@ only-ruled s q e f = ruled-one-to-one .same (e ∙ sym f)
 skip-of : Sort → skips.Skip
 skip-of NoD3 = S.NotD3
 skip-of Wrong = S.BadCheck
+skip-of WrongUbx = S.NotD3
 
 skip-again : (x : skips.Skip) → skip-of (toldSkip x) ≡ x
 unfolding skip-of
@@ -146,5 +152,5 @@ skip-again S.NotD3 = refl
 skip-again S.BadCheck = refl
 
 -- and so are two that the statement of `reason::skipped` allows
-pub only-skip : (n : ℕ) {x y : skips.Skip} → toldSkip x ≡ byByte n → toldSkip y ≡ byByte n → x ≡ y
+pub only-skip : (n : ℕ) {x y : skips.Skip} → toldSkip x ≡ byByte 0 n → toldSkip y ≡ byByte 0 n → x ≡ y
 only-skip n {x} {y} e f = sym (skip-again x) ∙ ap skip-of (e ∙ sym f) ∙ skip-again y

@@ -40,20 +40,21 @@ toldRuled R.Size = size
 
 -- ---- in feeding
 
--- Why a byte is skipped while feeding: no D3, or a D3 whose checksum is wrong.
+-- Why a byte is skipped while feeding: it starts no frame of the mode; it is a D3 whose checksum is wrong; it is a B5 that starts no good UBX frame.
 pub data Sort : Type 0 where
   NoD3 : Sort
   Wrong : Sort
+  WrongUbx : Sort
 
--- the reason of a scan of RTCM alone, which has none of UBX
+-- the reason of a scan in any mode
 abbrev pub sortOf : Why → Sort
 sortOf NotD3 = NoD3
 sortOf (BadCheck sent computed) = Wrong
-sortOf (OfUbx w) = NoD3
+sortOf (OfUbx w) = WrongUbx
 
--- a byte that was skipped tells by itself
-abbrev pub byByte : ℕ → Sort
-byByte x = cond (eqb x 0xD3) Wrong NoD3
+-- a byte that was skipped in a mode tells by itself
+abbrev pub byByte : ℕ → ℕ → Sort
+byByte mode x = cond (eqb x 0xD3) Wrong (cond (eqb mode 0) NoD3 (cond (eqb x 0xB5) WrongUbx NoD3))
 
 abbrev pub toldSkip : skips.Skip → Sort
 toldSkip S.NotD3 = NoD3

@@ -14,7 +14,7 @@ pub enum Ruled {
     Size,
 }
 
-// Why a byte was skipped while feeding.
+// Why a byte was skipped while feeding RTCM.
 pub enum Skip {
     NotD3,
     BadCheck,
@@ -39,9 +39,9 @@ pub fn at(bytes: &[u8], place: usize) -> Ruled
     }
 }
 
-// Why a byte that was skipped while feeding was skipped: the byte itself tells.
+// Why a byte that was skipped while feeding a scanner for RTCM alone was skipped: the byte itself tells.
 pub fn skipped(byte: u8) -> Skip
-    ensures { λ r. ⌜ toldSkip r ≡ byByte byte ⌝ }
+    ensures { λ r. ⌜ toldSkip r ≡ byByte 0 byte ⌝ }
 {
     if byte == 0xD3 {
         return Skip::BadCheck;

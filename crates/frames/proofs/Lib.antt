@@ -38,6 +38,7 @@ pub mod CloseLaws
 pub mod StandLaws
 pub mod PlaceLaws
 pub mod RtcmDemand
+pub mod BecameLaws
 pub mod FateLaws
 pub mod OnlyLaws
 pub mod EndLaws

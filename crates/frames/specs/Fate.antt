@@ -1,12 +1,13 @@
 -- What became of a byte of a recording: read off the items of the whole-stream scan. Assumes nothing.
 use mathlib.Core.Bool.{cond}
-use mathlib.Core.List.{List, [], _∷_}
-use Prim.Native.Nat.{ℕ, _+_}
+use mathlib.Core.List.{List}
+use Prim.Native.Nat.{ℕ}
 use lib.ListN.{length}
-use lib.Dec.{ltb, leb, eqb}
+use lib.Dec.{ltb, leb}
 use Rattle.bits.specs.Told.{Told, Accepted, size}
-use Rattle.frames.specs.Scan.{Item, Skipped, Framed, Scanned, scan}
+use Rattle.frames.specs.Scan.{Item, Scanned, scan}
 use Rattle.frames.specs.Framing.{decide}
+use Rattle.frames.specs.Became.{Became, In, Dropped, Waiting, becameIn}
 use Rattle.frames.specs.Rtcm as why
 use Rattle.frames.specs.Rtcm.{Why, Kind, rtcm}
 use Rattle.frames.specs.declared.fate.Fate as code
@@ -25,11 +26,15 @@ skippedFate q why.NotD3 = NotD3 q
 skippedFate q (why.BadCheck sent computed) = BadCheck q sent computed
 skippedFate q (why.OfUbx w) = NotD3 q
 
--- The byte at place q, where the items stand from place n on and the bytes h behind them are held: the item in which it lies tells.
+-- what became of the byte at place q, where the bytes h are held
+abbrev pub fateBy : List ℕ → ℕ → Became Why Kind → Fate
+fateBy h q (In p k l) = InFrame p l
+fateBy h q (Dropped w) = skippedFate q w
+fateBy h q (Waiting p) = Held p (length h)
+
+-- the byte at place q, where the items stand from place n on and the bytes h behind them are held
 abbrev pub fateIn : ℕ → List (Item Why Kind) → List ℕ → ℕ → Fate
-fateIn n [] h q = Held n (length h)
-fateIn n (Skipped w x ∷ is) h q = cond (eqb q n) (skippedFate q w) (fateIn (n + 1) is h q)
-fateIn n (Framed k f ∷ is) h q = cond (ltb q (n + length f)) (InFrame n (length f)) (fateIn (n + length f) is h q)
+fateIn n is h q = fateBy h q (becameIn n is q)
 
 -- the same of a scan whose first byte stands at place n
 abbrev pub fateOn : ℕ → Scanned Why Kind → ℕ → Fate

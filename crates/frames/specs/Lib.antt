@@ -8,6 +8,7 @@ pub mod Rtcm
 pub mod Answers
 pub mod Walk
 pub mod Steps
+pub mod Became
 pub mod Fate
 pub mod Ubx
 pub mod Either

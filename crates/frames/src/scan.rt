@@ -120,15 +120,9 @@ pub(crate) fn find_at_end(held: &[u8], mode: u32) -> Searched
             return Searched::More(at);
         }
         match candidate_at(held, &held[0..0], at, mode) {
-            Candidate::Good(n) => {
-                return Searched::Frame(at, n, 0);
-            }
-            Candidate::NotValid(_) => {
-                i = at + 1;
-            }
-            Candidate::Incomplete => {
-                i = at + 1;
-            }
+            Candidate::Good(n) => return Searched::Frame(at, n, 0),
+            Candidate::NotValid(_) => i = at + 1,
+            Candidate::Incomplete => i = at + 1,
         }
     }
     Searched::More(i)
