@@ -5,6 +5,7 @@ pub mod ShapedLaws
 pub mod NumberedLaws
 pub mod FixedLaws
 pub mod GoodLaws
+pub mod StandLaws
 pub mod UseLaws
 pub mod PutLaws
 pub mod WrittenLaws

@@ -2,8 +2,8 @@
 use mathlib.Core.Path.{_≡_, refl, sym, ap, subst}
 use mathlib.Core.Bool.{true}
 use mathlib.Core.List.{List}
-use Prim.Native.Nat.{ℕ, _+_, _≤_}
-use borrow.Author.Tests.{eqb-true}
+use Prim.Native.Nat.{ℕ, _+_, _^_, _≤_, _<_}
+use borrow.Author.Tests.{eqb-true, eq-eqb, lt-ltb, ltb-true}
 use lib.ListN.{length}
 use lib.Dec.{eqb}
 use Rattle.bits.specs.Told.{Accepted}
@@ -13,7 +13,7 @@ use Rattle.bits.specs.Signed.{fitsUnsigned}
 use Rattle.formats.specs.Format.{Format, unsigned, next, times, fitEach, shaped, counted}
 use Rattle.formats.specs.Faithful.{Stands, Faithful, OnlyShort}
 use Rattle.formats.proofs.OneLaws.{unsigned-faithful, unsigned-short}
-use Rattle.formats.proofs.NextLaws.{then-accepted, cut-then, both-true, next-faithful, next-short}
+use Rattle.formats.proofs.NextLaws.{then-accepted, cut-then, both-true, true-both, next-faithful, next-short}
 use Rattle.formats.proofs.TimesLaws.{times-faithful, times-short}
 
 module _ {A B : Type 0} (to : A → B) (from : B → A) (F : Format A) where
@@ -70,3 +70,13 @@ module _ {A : Type 0} (w : ℕ) (low : 1 ≤ w) (high : w ≤ 64) (F : Format A)
   counted-short f =
       shaped-short (λ x. x .1) (λ xs. (length xs, xs)) Count
       (next-short (unsigned w) (λ n. times n F) (unsigned-short w low high) (λ n. times-short F f n))
+
+-- a list fits where its length fits the count, and each of it fits
+pub counted-fits : {A : Type 0} (w : ℕ) (F : Format A) (xs : List A) → length xs < 2 ^ w → fitEach F xs ≡ true → counted w F .fits xs ≡ true
+counted-fits w F xs l f =
+    true-both (fitsUnsigned w (length xs)) _ (lt-ltb (length xs) (2 ^ w) l) (true-both (eqb (length xs) (length xs)) _ (eq-eqb (length xs) (length xs) refl) f)
+
+pub fits-counted : {A : Type 0} (w : ℕ) (F : Format A) (xs : List A) → counted w F .fits xs ≡ true → (length xs < 2 ^ w) × (fitEach F xs ≡ true)
+fits-counted w F xs f =
+    let b = both-true (fitsUnsigned w (length xs)) _ f in
+    (ltb-true (length xs) (2 ^ w) (b .0), both-true (eqb (length xs) (length xs)) (fitEach F xs) (b .1) .1)

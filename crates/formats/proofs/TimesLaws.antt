@@ -1,16 +1,16 @@
 -- A format so many times is faithful where it is. Assumes nothing.
 use mathlib.Core.Path.{_≡_, refl, sym, ap, subst, _∙_}
 use mathlib.Core.Bool.{true, _&&_}
-use mathlib.Core.List.{List, [], _∷_, _++_}
+use mathlib.Core.List.{List, [], _∷_, _++_, append-assoc}
 use Prim.Native.Nat.{ℕ, zero, suc, _+_, _*_, _≤_}
-use native.Mathlib.Nat.{add-zero}
+use native.Mathlib.Nat.{add-zero, zero-mul, suc-mul}
 use native.Mathlib.Omega.{arith}
 use borrow.Author.Tests.{eqb-true, eq-eqb}
 use lib.ListN.{length}
 use lib.Dec.{eqb}
 use Rattle.bits.specs.Told.{Accepted, Refused, andThen}
 use Rattle.bits.specs.Field.{Reading, reading}
-use Rattle.bits.specs.Fields.{total, Holds, Fit}
+use Rattle.bits.specs.Fields.{Field, total, Holds, Fit}
 use Rattle.bits.proofs.FieldsLaws.{total-none, holds-none, fit-none, total-append, holds-append, fit-append}
 use Rattle.formats.specs.Format.{Format, next, times, fitEach, fieldsEach, readEach}
 use Rattle.formats.specs.Faithful.{Stands, Faithful, Cut, OnlyShort}
@@ -50,6 +50,18 @@ module _ {A : Type 0} (F : Format A) where
   unfolding fieldsEach
   fields-none = refl
 
+  -- the fields of two lists, one behind the other
+  pub fields-append : (xs ys : List A) → fieldsEach F (xs ++ ys) ≡ fieldsEach F xs ++ fieldsEach F ys
+  unfolding fieldsEach
+  fields-append [] ys = refl
+  fields-append (x ∷ xs) ys = ap (λ (fs : List Field). F .fields x ++ fs) (fields-append xs ys) ∙ sym (append-assoc (F .fields x) (fieldsEach F xs) (fieldsEach F ys))
+
+  -- where each has w bits
+  pub total-each : (w : ℕ) → ((x : A) → total (F .fields x) ≡ w) → (xs : List A) → total (fieldsEach F xs) ≡ length xs * w
+  unfolding fieldsEach
+  total-each w e [] = total-none ∙ sym (zero-mul w)
+  total-each w e (x ∷ xs) = omega (arith, total-append (F .fields x) (fieldsEach F xs), e x, total-each w e xs, suc-mul (length xs) w)
+
   -- one more fits
   pub fit-each : (x : A) (xs : List A) → F .fits x ≡ true → fitEach F xs ≡ true → fitEach F (x ∷ xs) ≡ true
   unfolding fitEach
@@ -58,6 +70,13 @@ module _ {A : Type 0} (F : Format A) where
   pub fit-each-none : fitEach F [] ≡ true
   unfolding fitEach
   fit-each-none = refl
+
+  pub fit-each-append : (xs ys : List A) → fitEach F xs ≡ true → fitEach F ys ≡ true → fitEach F (xs ++ ys) ≡ true
+  unfolding fitEach
+  fit-each-append [] ys f g = g
+  fit-each-append (x ∷ xs) ys f g =
+      let b = both-true (F .fits x) (fitEach F xs) f in
+      true-both (F .fits x) (fitEach F (xs ++ ys)) (b .0) (fit-each-append xs ys (b .1) g)
 
   pub each-fits : (x : A) (xs : List A) → fitEach F (x ∷ xs) ≡ true → (F .fits x ≡ true) × (fitEach F xs ≡ true)
   unfolding fitEach

@@ -8,6 +8,7 @@ use lib.ListN.{length}
 use Rattle.bits.specs.Told.{Told, Accepted, Refused, andThen}
 use Rattle.bits.specs.Field.{field, Reading, reading, readBy}
 use Rattle.bits.proofs.ReadLaws.{read-tells}
+use Rattle.messages.specs.Reader.{asRecords}
 
 -- a step that was accepted came behind one that was
 pub then-accepted : {A B : Type 0} (t : Told A) (f : A → Told B) {b : B} → andThen t f ≡ Accepted b → (a : A) × (t ≡ Accepted a) × (f a ≡ Accepted b)
@@ -18,6 +19,13 @@ then-accepted (Refused n carried) f e = let z : _≡_ {A = ℕ} 0 1 = cc in absu
 pub not-refused : {A : Type 0} (n : ℕ) (carried : List ℕ) (b : Bool) (t : Told A) {a : A} → cond b (Refused n carried) t ≡ Accepted a → (b ≡ false) × (t ≡ Accepted a)
 not-refused n carried true t e = let z : _≡_ {A = ℕ} 0 1 = cc in absurd (omega arith)
 not-refused n carried false t e = (refl, e)
+
+-- records that were read are those of a value that was
+pub read-as : {A B : Type 0} (flat : A → List B) (t : Told (Reading A)) {xs : List B} {q : ℕ} → asRecords flat t ≡ Accepted (reading xs q) → (a : A) × (t ≡ Accepted (reading a q)) × (flat a ≡ xs)
+read-as {A} {B} flat (Accepted r) {xs} {q} e =
+    let i : reading (flat (r .value)) (r .next) ≡ reading xs q = cc in
+    (r .value, ap (λ (y : Reading (List B)). Accepted (reading (r .value) (y .next))) i, ap (λ (y : Reading (List B)). y .value) i)
+read-as flat (Refused n carried) e = let z : _≡_ {A = ℕ} 0 1 = cc in absurd (omega arith)
 
 module _ {A B : Type 0} (meaning : ℕ → A) (s : List ℕ) (p w : ℕ) (f : Reading A → Told B) where
   -- a field was read, and what came behind it was accepted

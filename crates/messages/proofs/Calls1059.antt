@@ -19,7 +19,7 @@ use Rattle.messages.specs.Write1059.{write1059}
 use Rattle.messages.specs.Layout1059.{Sat, flat1059}
 use Rattle.messages.specs.Satellites1059.{satellites1059, Regular}
 use Rattle.messages.specs.InOrder.{inOrder1059}
-use Rattle.messages.specs.WrittenBack.{WrittenBack}
+use Rattle.formats.specs.WrittenBack.{WrittenBack}
 use Rattle.messages.proofs.AcceptLaws.{not-refused, then-accepted}
 use Rattle.messages.proofs.Accepts1059.{call-accepted}
 use Rattle.messages.proofs.InOrderLaws.{in-order-1059, length-records}

@@ -19,7 +19,7 @@ use Rattle.messages.specs.I16.{OfI16}
 use Rattle.messages.specs.Read1230.{readBlock1230, filled1230, read1230}
 use Rattle.messages.specs.Write1230.{fields1230, write1230}
 use Rattle.messages.specs.InOrder.{inOrder1230}
-use Rattle.messages.specs.WrittenBack.{WrittenBack}
+use Rattle.formats.specs.WrittenBack.{WrittenBack}
 use Rattle.messages.proofs.AcceptLaws.{not-refused, then-accepted}
 use Rattle.messages.proofs.Accepts1230.{call-accepted, call-written}
 use Rattle.messages.proofs.ExtentLaws.{block1230-extends}

@@ -7,18 +7,20 @@ use native.Mathlib.Numerals.{add-one}
 use native.Mathlib.Omega.{arith}
 use borrow.Author.Tests.{lt-ltb, le-ltb, ltb-false}
 use lib.Dec.{eqb, ltb}
-use lib.ListN.{length, drop, getD, drop-of-length-le}
+use lib.ListN.{length, drop, getD, drop-of-length-le, length-append}
 use lib.Seq.{drop-cons}
 use Rattle.bits.specs.Told.{Told, tooMany}
 use Rattle.bits.specs.Fields.{total}
-use Rattle.bits.proofs.FieldsLaws.{total-append, total-none, total-next}
+use Rattle.bits.proofs.FieldsLaws.{total-next}
 use Rattle.messages.specs.Writer.{fine}
 use Rattle.messages.specs.Records.{Rec1059}
-use Rattle.messages.specs.Layout1059.{ofSatellite}
+use Rattle.messages.specs.Layout1059.{ofSatellite, grouped1059}
 use Rattle.messages.specs.Write1059.{crowded, present, fields1059}
-use Rattle.messages.specs.StepsWrite1059.{satelliteFields, satellitesFrom, sumOf, crowdedIn, presentIn}
-use Rattle.messages.proofs.Fields1059Laws.{total-satellite}
-use Rattle.messages.proofs.Layout1059Laws.{fields-laid}
+use Rattle.messages.specs.StepsWrite1059.{satellitesFrom, sumOf, crowdedIn, presentIn}
+use Rattle.messages.specs.InOrder.{recordsFrom}
+use Rattle.messages.proofs.Layout1059Laws.{same-count, fields-laid}
+use Rattle.messages.proofs.Grouped1059Laws.{flat-grouped}
+use Rattle.messages.proofs.Fits1059Laws.{total-satellites}
 
 -- ---- the counts from satellite a on, as the code goes through them
 
@@ -88,14 +90,13 @@ module _ (rs : List Rec1059) (cs : List ℕ) (all : length cs ≡ 64) (e : (a : 
       ap₂ (λ (c m : ℕ). cond (eqb c 0) 0 1 + m) (sym (e a (omega arith))) (present-is n (suc a) (omega arith))
       ∙ sym (present-cons cs a (omega arith))
 
-  pub total-is : (n a : ℕ) → a + n ≡ 64 → total (satellitesFrom a n rs) ≡ presentIn (drop a cs) * 11 + sumOf (drop a cs) * 19
-  unfolding satellitesFrom
-  total-is zero a h = omega (arith, total-none, present-none cs a (omega arith), sum-none cs a (omega arith))
-  total-is (suc n) a h =
-      let k : length (ofSatellite a rs) ≡ getD cs a 0 = sym (e a (omega arith)) in
-      let t : total (satelliteFields a (ofSatellite a rs)) ≡ cond (eqb (getD cs a 0) 0) 0 1 * 11 + getD cs a 0 * 19 = total-satellite a (ofSatellite a rs) ∙ ap (λ (c : ℕ). cond (eqb c 0) 0 1 * 11 + c * 19) k in
-      omega (arith, total-append (satelliteFields a (ofSatellite a rs)) (satellitesFrom (suc a) n rs), t, total-is n (suc a) (omega arith), present-cons cs a (omega arith), sum-cons cs a (omega arith))
+  sum-is : (n a : ℕ) → a + n ≡ 64 → length (recordsFrom a n rs) ≡ sumOf (drop a cs)
+  unfolding recordsFrom
+  sum-is zero a h = sym (sum-none cs a (omega arith))
+  sum-is (suc n) a h = omega (arith, length-append (ofSatellite a rs) (recordsFrom (suc a) n rs), e a (omega arith), sum-is n (suc a) (omega arith), sum-cons cs a (omega arith))
 
   -- the bits of the block
   pub bits-is : total (fields1059 rs) ≡ 6 + presentIn cs * 11 + sumOf cs * 19
-  bits-is = omega (arith, ap total (fields-laid rs), total-next 6 (present 0 64 rs) (satellitesFrom 0 64 rs), total-is 64 0 refl)
+  unfolding satellitesFrom
+  bits-is =
+      omega (arith, ap total (fields-laid rs), total-next 6 (present 0 64 rs) (satellitesFrom 0 64 rs), total-satellites (grouped1059 rs), same-count rs 64 0, present-is 64 0 refl, ap length (flat-grouped rs), sum-is 64 0 refl)

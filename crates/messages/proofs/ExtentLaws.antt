@@ -1,25 +1,32 @@
 -- How far a block that was read extends, and how many records it can have. Assumes nothing.
-use mathlib.Core.Path.{_≡_, refl, ap, _∙_}
+use mathlib.Core.Path.{_≡_, sym, ap, _∙_}
+use mathlib.Core.Bool.{true}
 use mathlib.Core.List.{List}
-use Prim.Native.Nat.{ℕ, _+_, _*_, _≤_}
+use Prim.Native.Nat.{ℕ, _+_, _*_, _^_, _≤_, _<_}
 use native.Mathlib.Omega.{arith}
-use lib.ListN.{length}
-use Rattle.bits.specs.Told.{Told, Accepted, Refused, andThen}
-use Rattle.bits.specs.Field.{Reading, reading, field, readUnsigned}
-use Rattle.bits.proofs.FieldsLaws.{holds-first}
-use Rattle.bits.proofs.ReadLaws.{read-tells}
-use Rattle.formats.specs.Format.{fieldsEach}
-use Rattle.messages.specs.Records.{Rec1059, Rec1230}
+use borrow.Author.Tests.{ltb-true, eqb-true}
+use lib.ListN.{length, length-map}
+use lib.IntN.{ℤ}
+use lib.Dec.{eqb}
+use Rattle.bits.specs.Told.{Accepted}
+use Rattle.bits.specs.Field.{Reading, reading, field}
+use Rattle.bits.specs.Fields.{total}
+use Rattle.bits.specs.Signed.{fitsUnsigned}
+use Rattle.bits.proofs.FieldsLaws.{total-next, holds-first}
+use Rattle.formats.specs.Format.{twos, fieldsEach}
+use Rattle.formats.proofs.NextLaws.{both-true}
+use Rattle.messages.specs.Records.{Rec1059, Rec1230, biasOf1230}
 use Rattle.messages.specs.Layout1059.{satellite1059, block1059, flat1059}
-use Rattle.messages.specs.Layout1230.{maskSignals}
+use Rattle.messages.specs.Layout1230.{block1230, maskSignals, masked, flat1230}
 use Rattle.messages.specs.Read1059.{readBlock1059}
 use Rattle.messages.specs.Read1230.{readBlock1230}
-use Rattle.messages.specs.StepsRead1230.{masked, biasesAt}
-use Rattle.messages.proofs.AcceptLaws.{then-accepted, field-accepted}
-use Rattle.messages.proofs.Layout1059Laws.{block-good}
-use Rattle.messages.proofs.Layout1230Laws.{block-same}
+use Rattle.messages.proofs.AcceptLaws.{then-accepted, read-as, field-accepted}
+use Rattle.messages.proofs.RecordLaws.{parts1230}
+use Rattle.messages.proofs.Layout1059Laws.{block-good as good1059}
+use Rattle.messages.proofs.Layout1230Laws.{block-good as good1230}
 use Rattle.messages.proofs.Fits1059Laws.{block-tells}
-use Rattle.messages.proofs.Read1230Laws.{biases-tell, masked-length}
+use Rattle.messages.proofs.Read1230Laws.{masked-length}
+use Rattle.messages.proofs.Fields1230Laws.{total-16}
 
 -- ---- message 1059: 6 bits, 11 a satellite and 19 a record
 
@@ -33,20 +40,17 @@ pub record Extent1059 (s : List ℕ) (p n : ℕ) (r : Reading (List Rec1059)) : 
 pub block1059-extends : (s : List ℕ) (p : ℕ) {r : Reading (List Rec1059)} → readBlock1059 s p ≡ Accepted r → Extent1059 s (p + 6) (field s p 6) r
 unfolding readBlock1059
 block1059-extends s p {r} e =
-    let t = then-accepted (block1059 .reads s p) _ e in
-    let xs = t .0 .value in
-    let x = block-good .faithful .there s p (t .0) (t .1) in
+    let a = read-as flat1059 (block1059 .reads s p) e in
+    let xs = a .0 in
+    let x = good1059 .faithful .there s p (reading xs (r .next)) (a .1) in
     let b = block-tells xs (x .fitting) in
-    let i : reading (flat1059 xs) (t .0 .next) ≡ r = cc (t .2) in
-    let m : length (flat1059 xs) ≡ length (r .value) = ap (λ (y : Reading (List Rec1059)). length (y .value)) i in
-    let q : t .0 .next ≡ r .next = ap (λ (y : Reading (List Rec1059)). y .next) i in
+    let m : length (flat1059 xs) ≡ length (r .value) = ap length (a .2) in
     let k : field s p 6 ≡ length xs = holds-first s p 6 (length xs) (fieldsEach satellite1059 xs) (x .holds) in
-    let w : t .0 .next ≤ length s * 8 = x .within (omega (arith, b .bits)) in
     record {
-      end = omega (arith, b .bits, x .ends, m, q, k);
+      end = omega (arith, b .bits, x .ends, m, k);
       few = omega (arith, b .records, m, k);
-      within = omega (arith, w, q);
-      limit = field-accepted (λ v. v) s p 6 _ (then-accepted _ _ (t .1) .1) .few;
+      within = x .within (omega (arith, b .bits));
+      limit = field-accepted (λ v. v) s p 6 _ (then-accepted _ _ (a .1) .1) .few;
     }
 
 -- 31 records a satellite at most, in 1,023 bytes at most
@@ -57,22 +61,32 @@ suffices-1059 s p e =
 
 -- ---- message 1230: 4 bits and 16 a record
 
+-- what a block that fits is like
+pub record Block1230 (m : ℕ) (zs : List ℤ) : Type 0 where
+  pub small : m < 16
+  pub count : length zs ≡ length (masked maskSignals m)
+  pub few : length zs ≤ 4
+  pub bits : total (block1230 .fields (m, zs)) ≡ 4 + length zs * 16
+
+pub block1230-tells : (m : ℕ) (zs : List ℤ) → block1230 .fits (m, zs) ≡ true → Block1230 m zs
+block1230-tells m zs f =
+    let u = both-true (fitsUnsigned 4 m) _ f in
+    let c = eqb-true (length zs) (length (masked maskSignals m)) (both-true (eqb (length zs) (length (masked maskSignals m))) _ (u .1) .0) in
+    record { small = ltb-true m (2 ^ 4) (u .0); count = c; few = omega (arith, c, masked-length m); bits = omega (arith, total-next 4 m (fieldsEach (twos 16) zs), total-16 zs) }
+
 pub record Extent1230 (s : List ℕ) (p : ℕ) (r : Reading (List Rec1230)) : Type 0 where
   pub end : r .next ≡ p + 4 + length (r .value) * 16
   pub few : length (r .value) ≤ 4
   pub within : r .next ≤ length s * 8
 
 pub block1230-extends : (s : List ℕ) (p : ℕ) {r : Reading (List Rec1230)} → readBlock1230 s p ≡ Accepted r → Extent1230 s p r
-block1230-extends s p {r} e = go (readUnsigned s p 4) refl (block-same s p ∙ e)
-  where
-    go : (t : Told (Reading ℕ)) → readUnsigned s p 4 ≡ t → andThen t (λ m. biasesAt s (masked maskSignals (m .value)) (m .next)) ≡ Accepted r → Extent1230 s p r
-    go (Refused x carried) f e = let z : _≡_ {A = ℕ} 0 1 = cc in absurd (omega arith)
-    go (Accepted m) f e =
-        let t = read-tells (λ v. v) s p 4 f in
-        let q : m .next ≡ p + 4 = ap (λ (x : Reading ℕ). x .next) (t .is) in
-        let u = biases-tell s (t .few) (masked maskSignals (m .value)) (m .next) (omega (arith, t .within)) e in
-        let l = masked-length (m .value) in
-        record { end = omega (arith, u .0, u .1); few = omega (arith, u .0); within = u .2 }
+unfolding readBlock1230
+block1230-extends s p {r} e =
+    let a = read-as flat1230 (block1230 .reads s p) e in
+    let x = good1230 .faithful .there s p (reading (a .0) (r .next)) (a .1) in
+    let b = block1230-tells (a .0 .0) (a .0 .1) (x .fitting) in
+    let n : length (r .value) ≡ length (a .0 .1) = ap length (sym (a .2)) ∙ sym (length-map (flat1230 (a .0)) biasOf1230) ∙ ap length (parts1230 _ _ (sym (b .count)) .1) in
+    record { end = omega (arith, x .ends, b .bits, n); few = omega (arith, n, b .few); within = x .within (omega (arith, b .bits)) }
 
 pub suffices-1230 : (s : List ℕ) (p : ℕ) {r : Reading (List Rec1230)} → readBlock1230 s p ≡ Accepted r → length (r .value) ≤ 4
 suffices-1230 s p e = block1230-extends s p e .few

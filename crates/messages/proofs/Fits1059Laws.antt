@@ -1,25 +1,26 @@
 -- Satellites that fit the block of message 1059: what each of them is like, the bits that they take, and that records which a call does not refuse make such. Assumes nothing.
-use mathlib.Core.Path.{_≡_, refl, sym, ap, _∙_}
-use mathlib.Core.Bool.{Bool, true, false}
+use mathlib.Core.Path.{_≡_, refl, ap, _∙_}
+use mathlib.Core.Bool.{Bool, true, false, cond}
 use mathlib.Core.List.{List, [], _∷_, _++_, map}
 use Prim.Native.Nat.{ℕ, zero, suc, _+_, _*_, _^_, _≤_, _<_}
 use native.Mathlib.Omega.{arith}
-use borrow.Author.Tests.{ltb-true, ltb-false, lt-ltb, le-ltb, eq-eqb}
+use borrow.Author.Tests.{ltb-true, ltb-false, lt-ltb, le-ltb}
 use lib.ListN.{length, length-map, length-append}
 use lib.IntN.{ℤ}
 use lib.Dec.{eqb, ltb}
 use Rattle.bits.specs.Fields.{bits, total}
 use Rattle.bits.specs.Signed.{fitsUnsigned, fitsTwos, twosBits}
-use Rattle.bits.proofs.FieldsLaws.{total-append, total-none, total-next}
-use Rattle.formats.specs.Format.{Format, fitEach, fieldsEach, counted}
+use Rattle.bits.proofs.FieldsLaws.{total-append, total-none, total-one, total-next}
+use Rattle.formats.specs.Format.{fitEach, fieldsEach}
 use Rattle.formats.proofs.NextLaws.{both-true, true-both}
-use Rattle.formats.proofs.TimesLaws.{fields-none, fields-next, fit-each, fit-each-none, each-fits}
-use Rattle.messages.specs.Every.{Every}
+use Rattle.formats.proofs.TimesLaws.{fields-none, fields-next, total-each, fit-each, fit-each-none, each-fits}
+use Rattle.formats.proofs.ShapedLaws.{counted-fits, fits-counted}
+use Rattle.messages.specs.Every.{Every, gather}
 use Rattle.messages.specs.Records.{Rec1059, rec1059, signalOf1059}
 use Rattle.messages.specs.Writer.{fine, keep}
 use Rattle.messages.specs.Signals1059.{isSignal1059}
-use Rattle.messages.specs.Layout1059.{bias1059, satellite1059, block1059, Sat, gather, ofBias, ofSat, flat1059, ofSatellite, biasOf, withSome, groupedFrom, grouped1059}
-use Rattle.messages.specs.Write1059.{crowded}
+use Rattle.messages.specs.Layout1059.{bias1059, satellite1059, block1059, Sat, ofBias, ofSat, flat1059, ofSatellite, biasOf, withSome, groupedFrom, grouped1059}
+use Rattle.messages.specs.Write1059.{crowded, present}
 use Rattle.messages.proofs.AcceptLaws.{not-refused}
 use Rattle.messages.proofs.EveryLaws.{every-join, every-split}
 use Rattle.messages.proofs.Accepts1059.{Writable, Fine}
@@ -28,22 +29,13 @@ use Rattle.messages.proofs.Signals1059Laws.{signal-fits}
 
 -- ---- what fits
 
-counted-fits : {A : Type 0} (w : ℕ) (F : Format A) (xs : List A) → length xs < 2 ^ w → fitEach F xs ≡ true → counted w F .fits xs ≡ true
-counted-fits w F xs l f =
-    true-both (fitsUnsigned w (length xs)) _ (lt-ltb (length xs) (2 ^ w) l) (true-both (eqb (length xs) (length xs)) _ (eq-eqb (length xs) (length xs) refl) f)
-
-fits-counted : {A : Type 0} (w : ℕ) (F : Format A) (xs : List A) → counted w F .fits xs ≡ true → (length xs < 2 ^ w) × (fitEach F xs ≡ true)
-fits-counted w F xs f =
-    let b = both-true (fitsUnsigned w (length xs)) _ f in
-    (ltb-true (length xs) (2 ^ w) (b .0), both-true (eqb (length xs) (length xs)) (fitEach F xs) (b .1) .1)
-
 -- number and bias count of a satellite are in their range, and its biases fit
-record Good (x : Sat) : Type 0 where
+pub record Good (x : Sat) : Type 0 where
   pub low : x .0 ≤ 63
   pub thin : length (x .1) ≤ 31
   pub biases : fitEach bias1059 (x .1) ≡ true
 
-good : (x : Sat) → satellite1059 .fits x ≡ true → Good x
+pub good : (x : Sat) → satellite1059 .fits x ≡ true → Good x
 good x f =
     let b = both-true (fitsUnsigned 6 (x .0)) _ f in
     let l : x .0 < 2 ^ 6 = ltb-true (x .0) (2 ^ 6) (b .0) in
@@ -51,25 +43,17 @@ good x f =
     let k : length (x .1) < 2 ^ 5 = c .0 in
     record { low = omega arith; thin = omega arith; biases = c .1 }
 
-all-good : (xs : List Sat) → fitEach satellite1059 xs ≡ true → Every Good xs
-all-good [] f = tt
-all-good (x ∷ xs) f = let b = each-fits satellite1059 x xs f in (good x (b .0), all-good xs (b .1))
-
 -- ---- bits and records: 6 bits, 11 a satellite and 19 a record
 
-own-length : (a : ℕ) (bs : List (ℕ × ℤ)) → length (gather (ofBias a) bs) ≡ length bs
+pub own-length : (a : ℕ) (bs : List (ℕ × ℤ)) → length (gather (ofBias a) bs) ≡ length bs
 unfolding gather
 own-length a [] = refl
 own-length a (b ∷ bs) = ap suc (own-length a bs)
 
 total-biases : (bs : List (ℕ × ℤ)) → total (fieldsEach bias1059 bs) ≡ length bs * 19
-total-biases [] = ap total (fields-none bias1059) ∙ total-none
-total-biases (b ∷ bs) =
-    let fs = fieldsEach bias1059 bs in
-    let v = twosBits 14 (b .1) in
-    omega (arith, ap total (fields-next bias1059 b bs), total-next 5 (b .0) (bits 14 v ∷ fs), total-next 14 v fs, total-biases bs)
+total-biases bs = total-each bias1059 19 (λ b. omega (arith, total-next 5 (b .0) (bits 14 (twosBits 14 (b .1)) ∷ []), total-one 14 (twosBits 14 (b .1)))) bs
 
-total-satellites : (xs : List Sat) → total (fieldsEach satellite1059 xs) ≡ length xs * 11 + length (flat1059 xs) * 19
+pub total-satellites : (xs : List Sat) → total (fieldsEach satellite1059 xs) ≡ length xs * 11 + length (flat1059 xs) * 19
 unfolding gather
 total-satellites [] = ap total (fields-none satellite1059) ∙ total-none
 total-satellites (x ∷ xs) =
@@ -78,88 +62,74 @@ total-satellites (x ∷ xs) =
     let k = length (x .1) in
     omega (arith, ap total (fields-next satellite1059 x xs), total-next 6 (x .0) (bits 5 k ∷ bs ++ fs), total-next 5 k (bs ++ fs), total-append bs fs, total-biases (x .1), total-satellites xs, own-length (x .0) (x .1), length-append (ofSat x) (flat1059 xs))
 
-most : (xs : List Sat) → Every Good xs → length (flat1059 xs) ≤ length xs * 31
+most : (xs : List Sat) → fitEach satellite1059 xs ≡ true → length (flat1059 xs) ≤ length xs * 31
 unfolding gather
-most [] g = omega arith
-most (x ∷ xs) g = omega (arith, length-append (ofSat x) (flat1059 xs), own-length (x .0) (x .1), g .0 .thin, most xs (g .1))
+most [] f = omega arith
+most (x ∷ xs) f =
+    let b = each-fits satellite1059 x xs f in
+    omega (arith, length-append (ofSat x) (flat1059 xs), own-length (x .0) (x .1), good x (b .0) .thin, most xs (b .1))
 
 -- what a block that fits is like
 pub record Block (xs : List Sat) : Type 0 where
   pub fewer : length xs ≤ 63
   pub satellites : fitEach satellite1059 xs ≡ true
-  pub low : Every (λ x. x .0 ≤ 63) xs
   pub bits : total (block1059 .fields xs) ≡ 6 + length xs * 11 + length (flat1059 xs) * 19
   pub records : length (flat1059 xs) ≤ length xs * 31
-
-lows : (xs : List Sat) → Every Good xs → Every (λ x. x .0 ≤ 63) xs
-lows [] g = tt
-lows (x ∷ xs) g = (g .0 .low, lows xs (g .1))
 
 pub block-tells : (xs : List Sat) → block1059 .fits xs ≡ true → Block xs
 block-tells xs f =
     let b = fits-counted 6 satellite1059 xs f in
     let l : length xs < 2 ^ 6 = b .0 in
-    let g = all-good xs (b .1) in
     record {
       fewer = omega arith;
       satellites = b .1;
-      low = lows xs g;
       bits = omega (arith, total-next 6 (length xs) (fieldsEach satellite1059 xs), total-satellites xs);
-      records = most xs g;
+      records = most xs (b .1);
     }
 
 module _ (e : ℕ) where
   -- ---- records of which nothing is refused make satellites that fit
 
-  of-writable : (c : ℕ) (rs : List Rec1059) → Every (Writable e) rs → Every (Writable e) (ofSatellite c rs)
+  fits-of : (c : ℕ) (rs : List Rec1059) → Every (Writable e) rs → fitEach bias1059 (map biasOf (ofSatellite c rs)) ≡ true
   unfolding ofSatellite
-  of-writable c [] w = tt
-  of-writable c (rec1059 b g z ∷ rs) w = go (eqb b c) (of-writable c rs (w .1))
+  fits-of c [] w = fit-each-none bias1059
+  fits-of c (rec1059 b g z ∷ rs) w = go (eqb b c) (fits-of c rs (w .1))
     where
-      go : (q : Bool) → Every (Writable e) (ofSatellite c rs) → Every (Writable e) (keep q (rec1059 b g z) (ofSatellite c rs))
-      go true r = (w .0, r)
+      go : (q : Bool) → fitEach bias1059 (map biasOf (ofSatellite c rs)) ≡ true → fitEach bias1059 (map biasOf (keep q (rec1059 b g z) (ofSatellite c rs))) ≡ true
+      go true r = fit-each bias1059 (g, z) _ (true-both (fitsUnsigned 5 g) (fitsTwos 14 z) (lt-ltb g (2 ^ 5) (signal-fits e g (w .0 .known))) (w .0 .fits)) r
       go false r = r
 
-  fits-biases : (rs : List Rec1059) → Every (Writable e) rs → fitEach bias1059 (map biasOf rs) ≡ true
-  fits-biases [] w = fit-each-none bias1059
-  fits-biases (rec1059 a g z ∷ rs) w =
-      fit-each bias1059 (g, z) (map biasOf rs) (true-both (fitsUnsigned 5 g) (fitsTwos 14 z) (lt-ltb g (2 ^ 5) (signal-fits e g (w .0 .known))) (w .0 .fits))
-      (fits-biases rs (w .1))
+fits-some : (a : ℕ) (rs : List Rec1059) (xs : List Sat) → a < 64 → length rs ≤ 31 → fitEach bias1059 (map biasOf rs) ≡ true → fitEach satellite1059 xs ≡ true
+    → fitEach satellite1059 (withSome a rs xs) ≡ true
+unfolding withSome
+fits-some a [] xs l k w f = f
+fits-some a (r ∷ rs) xs l k w f =
+    fit-each satellite1059 (a, map biasOf (r ∷ rs)) xs
+    (true-both (fitsUnsigned 6 a) _ (lt-ltb a (2 ^ 6) l) (counted-fits 5 bias1059 (map biasOf (r ∷ rs)) (omega (arith, length-map (r ∷ rs) biasOf, k)) w)) f
 
-  fits-some : (a : ℕ) (rs : List Rec1059) (xs : List Sat) → a < 64 → length rs ≤ 31 → Every (Writable e) rs → fitEach satellite1059 xs ≡ true
-      → fitEach satellite1059 (withSome a rs xs) ≡ true
-  unfolding withSome
-  fits-some a [] xs l k w f = f
-  fits-some a (r ∷ rs) xs l k w f =
-      let n = length-map (r ∷ rs) biasOf in
-      let low : a < 2 ^ 6 = omega arith in
-      fit-each satellite1059 (a, map biasOf (r ∷ rs)) xs
-      (true-both (fitsUnsigned 6 a) _ (lt-ltb a (2 ^ 6) low)
-      (counted-fits 5 bias1059 (map biasOf (r ∷ rs)) (omega (arith, n, k)) (fits-biases (r ∷ rs) w)))
-      f
+at-most : (rs : List Rec1059) (n a : ℕ) → present a n rs ≤ n
+unfolding present
+at-most rs zero a = omega arith
+at-most rs (suc n) a = go (eqb (length (ofSatellite a rs)) 0) (at-most rs n (suc a))
+  where
+    go : (b : Bool) → present (suc a) n rs ≤ n → cond b 0 1 + present (suc a) n rs ≤ suc n
+    go true h = omega arith
+    go false h = omega arith
 
+module _ (e : ℕ) where
   fits-from : (rs : List Rec1059) → Every (Writable e) rs → (n a : ℕ) → a + n ≤ 64 → crowded a n rs ≡ fine → fitEach satellite1059 (groupedFrom a n rs) ≡ true
   unfolding groupedFrom crowded
   fits-from rs w zero a l c = fit-each-none satellite1059
   fits-from rs w (suc n) a l c =
       let t = not-refused 6 (a ∷ []) (ltb 31 (length (ofSatellite a rs))) _ c in
-      fits-some a (ofSatellite a rs) (groupedFrom (suc a) n rs) (omega arith) (ltb-false 31 (length (ofSatellite a rs)) (t .0)) (of-writable a rs w)
+      fits-some a (ofSatellite a rs) (groupedFrom (suc a) n rs) (omega arith) (ltb-false 31 (length (ofSatellite a rs)) (t .0)) (fits-of e a rs w)
       (fits-from rs w n (suc a) (omega arith) (t .1))
 
-  at-most : (rs : List Rec1059) (n a : ℕ) → length (groupedFrom a n rs) ≤ n
-  unfolding groupedFrom withSome
-  at-most rs zero a = omega arith
-  at-most rs (suc n) a = go (ofSatellite a rs) (at-most rs n (suc a))
-    where
-      go : (l : List Rec1059) → length (groupedFrom (suc a) n rs) ≤ n → length (withSome a l (groupedFrom (suc a) n rs)) ≤ suc n
-      go [] h = omega arith
-      go (r ∷ l) h = omega arith
-
   pub grouped-fits : (rs : List Rec1059) → Fine e rs → block1059 .fits (grouped1059 rs) ≡ true
-  grouped-fits rs w = counted-fits 6 satellite1059 (grouped1059 rs) (few (at-most rs 64 0) (λ q. w .fewer (sym (same-count rs) ∙ q))) (fits-from rs (w .clean) 64 0 (omega arith) (w .thin))
+  grouped-fits rs w = counted-fits 6 satellite1059 (grouped1059 rs) (few (w .fewer)) (fits-from rs (w .clean) 64 0 (omega arith) (w .thin))
     where
-      few : length (grouped1059 rs) ≤ 64 → (length (grouped1059 rs) ≡ 64 → ⊥) → length (grouped1059 rs) < 2 ^ 6
-      few l n = omega arith
+      few : (present 0 64 rs ≡ 64 → ⊥) → length (grouped1059 rs) < 2 ^ 6
+      few n = omega (arith, n, same-count rs 64 0, at-most rs 64 0)
 
   -- ---- and back: of satellites that fit, with signals of the edition, nothing is refused
 

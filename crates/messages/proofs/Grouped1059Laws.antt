@@ -1,5 +1,5 @@
--- Satellites that ascend strictly, each with a bias, are found again from their records, and records from their satellites. Assumes nothing.
-use mathlib.Core.Path.{_≡_, refl, sym, ap, ap₂, _∙_}
+-- Satellites that fit and ascend strictly, each with a bias, are found again from their records, and records from their satellites. Assumes nothing.
+use mathlib.Core.Path.{_≡_, refl, sym, ap, ap₂, subst, _∙_}
 use mathlib.Core.Bool.{Bool, true, false}
 use mathlib.Core.List.{List, [], _∷_, _++_, map, append-nil}
 use Prim.Native.Nat.{ℕ, zero, suc, _+_, _≤_, _<_}
@@ -9,42 +9,32 @@ use borrow.Author.Tests.{eq-eqb, ne-eqb, eqb-true}
 use lib.ListN.{length}
 use lib.IntN.{ℤ}
 use lib.Dec.{eqb}
-use Rattle.messages.specs.Every.{Every}
+use Rattle.formats.specs.Format.{fitEach}
+use Rattle.formats.proofs.TimesLaws.{each-fits}
+use Rattle.messages.specs.Every.{Every, gather}
 use Rattle.messages.specs.Records.{Rec1059, rec1059}
 use Rattle.messages.specs.Writer.{keep}
-use Rattle.messages.specs.Layout1059.{Sat, gather, ofBias, ofSat, flat1059, ofSatellite, biasOf, withSome, groupedFrom, grouped1059}
+use Rattle.messages.specs.Layout1059.{satellite1059, Sat, ofBias, ofSat, flat1059, ofSatellite, biasOf, withSome, groupedFrom, grouped1059}
 use Rattle.messages.specs.Satellites1059.{AscendingFrom}
 use Rattle.messages.specs.InOrder.{recordsFrom, inOrder1059}
+use Rattle.messages.proofs.Fits1059Laws.{good}
 
 -- ---- the records of one satellite among all
 
-of-append : (c : ℕ) (xs ys : List Rec1059) → ofSatellite c (xs ++ ys) ≡ ofSatellite c xs ++ ofSatellite c ys
-unfolding ofSatellite
-of-append c [] ys = refl
-of-append c (rec1059 b g z ∷ xs) ys = go (eqb b c) (of-append c xs ys)
-  where
-    go : (t : Bool) → ofSatellite c (xs ++ ys) ≡ ofSatellite c xs ++ ofSatellite c ys
-        → keep t (rec1059 b g z) (ofSatellite c (xs ++ ys)) ≡ keep t (rec1059 b g z) (ofSatellite c xs) ++ ofSatellite c ys
-    go true e = ap (λ (l : List Rec1059). rec1059 b g z ∷ l) e
-    go false e = e
-
-of-own : (c : ℕ) (bs : List (ℕ × ℤ)) → ofSatellite c (gather (ofBias c) bs) ≡ gather (ofBias c) bs
+own : (c : ℕ) (bs : List (ℕ × ℤ)) (rs : List Rec1059) → ofSatellite c (gather (ofBias c) bs ++ rs) ≡ gather (ofBias c) bs ++ ofSatellite c rs
 unfolding ofSatellite gather
-of-own c [] = refl
-of-own c (b ∷ bs) = rw (eq-eqb c c refl) (ap (λ (l : List Rec1059). rec1059 c (b .0) (b .1) ∷ l) (of-own c bs))
+own c [] rs = refl
+own c (b ∷ bs) rs = rw (eq-eqb c c refl) (ap (λ (l : List Rec1059). rec1059 c (b .0) (b .1) ∷ l) (own c bs rs))
 
-of-other : (b c : ℕ) (bs : List (ℕ × ℤ)) → (b ≡ c → ⊥) → ofSatellite c (gather (ofBias b) bs) ≡ []
+other : (b c : ℕ) (bs : List (ℕ × ℤ)) (rs : List Rec1059) → (b ≡ c → ⊥) → ofSatellite c (gather (ofBias b) bs ++ rs) ≡ ofSatellite c rs
 unfolding ofSatellite gather
-of-other b c [] n = refl
-of-other b c (x ∷ bs) n = rw (ne-eqb b c n) (of-other b c bs n)
+other b c [] rs n = refl
+other b c (x ∷ bs) rs n = rw (ne-eqb b c n) (other b c bs rs n)
 
-of-later : (c a : ℕ) (xs : List Sat) → c < a → AscendingFrom a xs → ofSatellite c (flat1059 xs) ≡ []
+later : (c a : ℕ) (xs : List Sat) → c < a → AscendingFrom a xs → ofSatellite c (flat1059 xs) ≡ []
 unfolding ofSatellite gather AscendingFrom
-of-later c a [] l up = refl
-of-later c a (x ∷ xs) l up =
-    of-append c (ofSat x) (flat1059 xs)
-    ∙ ap₂ (λ (u v : List Rec1059). u ++ v) (of-other (x .0) c (x .1) (λ e. omega (arith, up .0)))
-    (of-later c (suc (x .0)) xs (omega (arith, up .0)) (up .1))
+later c a [] l up = refl
+later c a (x ∷ xs) l up = other (x .0) c (x .1) (flat1059 xs) (λ e. omega (arith, up .0)) ∙ later c (suc (x .0)) xs (omega (arith, up .0)) (up .1)
 
 -- ---- grouping the records of satellites
 
@@ -62,40 +52,37 @@ with-some a (b ∷ bs) xs some = ap (λ (l : List (ℕ × ℤ)). (a, b ∷ l) �
 past : (b : ℕ) (bs : List (ℕ × ℤ)) (rs : List Rec1059) (n c : ℕ) → b < c → groupedFrom c n (gather (ofBias b) bs ++ rs) ≡ groupedFrom c n rs
 unfolding groupedFrom
 past b bs rs zero c l = refl
-past b bs rs (suc n) c l =
-    ap₂ (withSome c)
-    (of-append c (gather (ofBias b) bs) rs ∙ ap (λ (u : List Rec1059). u ++ ofSatellite c rs) (of-other b c bs (λ e. omega arith)))
-    (past b bs rs n (suc c) (omega arith))
+past b bs rs (suc n) c l = ap₂ (withSome c) (other b c bs rs (λ e. omega arith)) (past b bs rs n (suc c) (omega arith))
 
-again : (n a : ℕ) (xs : List Sat) → a + n ≡ 64 → AscendingFrom a xs → Every (λ x. x .0 ≤ 63) xs → Every (λ x. 1 ≤ length (x .1)) xs → groupedFrom a n (flat1059 xs) ≡ xs
+-- satellites that fit, from a on
+record From (a : ℕ) (xs : List Sat) : Type 0 where
+  pub up : AscendingFrom a xs
+  pub fits : fitEach satellite1059 xs ≡ true
+  pub some : Every (λ x. 1 ≤ length (x .1)) xs
+
+again : (n a : ℕ) (xs : List Sat) → a + n ≡ 64 → From a xs → groupedFrom a n (flat1059 xs) ≡ xs
 unfolding AscendingFrom gather groupedFrom withSome ofSatellite
-again zero a [] m up low b = refl
-again zero a (x ∷ xs) m up low b = absurd (omega (arith, up .0, low .0))
-again (suc n) a [] m up low b = again n (suc a) [] (omega arith) tt tt tt
-again (suc n) a (x ∷ xs) m up low b = go (λ ys. again n (suc a) ys (omega arith)) (ℕ-discrete (x .0) a)
+again zero a [] m f = refl
+again zero a (x ∷ xs) m f = absurd (omega (arith, f .up .0, good x (each-fits satellite1059 x xs (f .fits) .0) .low))
+again (suc n) a [] m f = again n (suc a) [] (omega arith) (record { up = tt; fits = f .fits; some = tt })
+again (suc n) a (x ∷ xs) m f = go (λ ys. again n (suc a) ys (omega arith)) (ℕ-discrete (x .0) a)
   where
-    next : AscendingFrom (suc (x .0)) xs → x .0 ≡ a → AscendingFrom (suc a) xs
-    next u e = rw e at u
-
-    go : ((ys : List Sat) → AscendingFrom (suc a) ys → Every (λ x. x .0 ≤ 63) ys → Every (λ x. 1 ≤ length (x .1)) ys → groupedFrom (suc a) n (flat1059 ys) ≡ ys)
+    go : ((ys : List Sat) → From (suc a) ys → groupedFrom (suc a) n (flat1059 ys) ≡ ys)
         → Dec (x .0 ≡ a) → withSome a (ofSatellite a (ofSat x ++ flat1059 xs)) (groupedFrom (suc a) n (ofSat x ++ flat1059 xs)) ≡ x ∷ xs
     go ih (yes e) =
-        let later : AscendingFrom (suc a) xs = next (up .1) e in
         let bs = x .1 in
-        let mine : ofSatellite a (gather (ofBias a) bs ++ flat1059 xs) ≡ gather (ofBias a) bs =
-        of-append a (gather (ofBias a) bs) (flat1059 xs)
-        ∙ ap₂ (λ (u v : List Rec1059). u ++ v) (of-own a bs) (of-later a (suc a) xs (omega arith) later)
-        ∙ append-nil (gather (ofBias a) bs) in
+        let up : AscendingFrom (suc a) xs = subst (λ (k : ℕ). AscendingFrom (suc k) xs) e (f .up .1) in
+        let mine = own a bs (flat1059 xs) ∙ ap (λ (l : List Rec1059). gather (ofBias a) bs ++ l) (later a (suc a) xs (omega arith) up) ∙ append-nil (gather (ofBias a) bs) in
         ap (λ (k : ℕ). withSome a (ofSatellite a (gather (ofBias k) bs ++ flat1059 xs)) (groupedFrom (suc a) n (gather (ofBias k) bs ++ flat1059 xs))) e
-        ∙ ap₂ (withSome a) mine (past a bs (flat1059 xs) n (suc a) (omega arith) ∙ ih xs later (low .1) (b .1))
-        ∙ with-some a bs xs (b .0)
+        ∙ ap₂ (withSome a) mine (past a bs (flat1059 xs) n (suc a) (omega arith) ∙ ih xs (record { up = up; fits = each-fits satellite1059 x xs (f .fits) .1; some = f .some .1 }))
+        ∙ with-some a bs xs (f .some .0)
         ∙ ap (λ (k : ℕ). (k, bs) ∷ xs) (sym e)
     go ih (no d) =
-        let u : suc a ≤ x .0 = omega (arith, up .0) in
-        ap₂ (withSome a) (of-later a (suc a) (x ∷ xs) (omega arith) (u, up .1)) (ih (x ∷ xs) (u, up .1) low b)
+        let u : suc a ≤ x .0 = omega (arith, f .up .0) in
+        ap₂ (withSome a) (later a (suc a) (x ∷ xs) (omega arith) (u, f .up .1)) (ih (x ∷ xs) (record { up = (u, f .up .1); fits = f .fits; some = f .some }))
 
-pub grouped-again : (xs : List Sat) → AscendingFrom 0 xs → Every (λ x. x .0 ≤ 63) xs → Every (λ x. 1 ≤ length (x .1)) xs → grouped1059 (flat1059 xs) ≡ xs
-grouped-again xs up low some = again 64 0 xs refl up low some
+pub grouped-again : (xs : List Sat) → AscendingFrom 0 xs → fitEach satellite1059 xs ≡ true → Every (λ x. 1 ≤ length (x .1)) xs → grouped1059 (flat1059 xs) ≡ xs
+grouped-again xs up fits some = again 64 0 xs refl (record { up = up; fits = fits; some = some })
 
 -- ---- the records of grouped satellites are those of the list in order
 

@@ -10,7 +10,6 @@ pub mod OnlyLaws
 pub mod AcceptLaws
 pub mod EveryLaws
 pub mod WriterLaws
-pub mod StandLaws
 pub mod Accepts1059
 pub mod Layout1059Laws
 pub mod Grouped1059Laws

@@ -18,7 +18,7 @@ use Rattle.messages.specs.Writer.{keep}
 use Rattle.messages.specs.Layout1059.{ofSatellite}
 use Rattle.formats.proofs.PutLaws.{Left, left-all, left-as}
 use Rattle.messages.proofs.RecordLaws.{from1059, next1059, end1059}
-use Rattle.messages.proofs.Fields1059Laws.{fields-some, fields-none}
+use Rattle.messages.proofs.Fields1059Laws.{fields-some, fields-none, biases-next, biases-none}
 
 -- an element, by whatever default
 pub getD-any : (l : List ℕ) (i d e : ℕ) → i < length l → getD l i d ≡ getD l i e
@@ -227,13 +227,13 @@ module _ (sats gs : List ℕ) (zs : List ℤ) (lg : length sats ≡ length gs) (
   pub bias-here : (i : ℕ) → i < length sats → getD sats i a ≡ a
       → biasFields (ofSatellite a (from1059 sats gs zs i))
       ≡ bits 5 (getD gs i 0) ∷ bits 14 (twosBits 14 (getD zs i (pos 0))) ∷ biasFields (ofSatellite a (from1059 sats gs zs (nextOf sats a (suc i))))
-  unfolding biasFields
   bias-here i h e =
       ap biasFields
       (kept i h
       ∙ ap (λ (b : Bool). keep b (rec1059 (getD sats i 0) (getD gs i 0) (getD zs i (pos 0))) (ofSatellite a (from1059 sats gs zs (suc i)))) (eq-eqb (getD sats i 0) a (getD-any sats i 0 a h ∙ e))
       ∙ ap (λ (l : List Rec1059). rec1059 (getD sats i 0) (getD gs i 0) (getD zs i (pos 0)) ∷ l) (next-records (suc i) h))
+      ∙ biases-next (getD sats i 0) (getD gs i 0) (getD zs i (pos 0)) (ofSatellite a (from1059 sats gs zs (nextOf sats a (suc i))))
 
   pub bias-none : (i : ℕ) → length sats ≤ i → biasFields (ofSatellite a (from1059 sats gs zs i)) ≡ []
-  unfolding ofSatellite biasFields
-  bias-none i h = ap (λ (l : List Rec1059). biasFields (ofSatellite a l)) (end1059 sats gs zs i h)
+  unfolding ofSatellite
+  bias-none i h = ap (λ (l : List Rec1059). biasFields (ofSatellite a l)) (end1059 sats gs zs i h) ∙ biases-none

@@ -9,21 +9,24 @@ use borrow.Author.Tests.{lt-ltb, le-ltb, eq-eqb, ne-eqb}
 use lib.IntN.{ℤ}
 use lib.ListN.{length, set}
 use lib.Dec.{ltb}
-use Rattle.bits.specs.Told.{Told, Accepted, size, Refused, andThen}
+use Rattle.bits.specs.Told.{Told, Accepted, size, Refused}
 use Rattle.bits.specs.Field.{Reading, reading, missing, cutAt, readUnsigned, field, readTwos}
 use Rattle.bits.specs.Outcome.{Outcome, outcome, refusing}
 use Rattle.bits.specs.Signed.{twosOf}
 use Rattle.bits.proofs.ReadLaws.{reads-value, reads-short}
+use Rattle.formats.specs.Format.{readEach}
 use Rattle.messages.specs.StepsRead.{many, Lists1059, lists1059, put1059, counts, Stored}
 use Rattle.messages.specs.Records.{Rec1059, Counted, counted, rec1059}
 use Rattle.messages.specs.StepsRead1059.{satelliteAt, biasAt}
 use Rattle.messages.specs.Read1059.{readBlock1059, filled1059, read1059}
-use Rattle.messages.proofs.Layout1059Laws.{block-same}
+use Rattle.messages.specs.Layout1059.{bias1059, satellite1059, ofBias, ofSat, flat1059}
+use Rattle.messages.proofs.AcceptLaws.{read-as}
+use Rattle.messages.proofs.Layout1059Laws.{satellite-good, many-same, behind-count, behind-both}
+use Rattle.messages.proofs.Fits1059Laws.{good, own-length}
 use Rattle.messages.proofs.CallLaws.{Call}
 use Rattle.messages.proofs.StoreLaws.{put1059-front}
 use Rattle.messages.proofs.PassLaws.{counts-short, counted-tells, stored-one}
-use Rattle.messages.proofs.ArmLaws.{value-within}
-use Rattle.messages.proofs.RunLaws.{Single, Run, many-run, run-fits, run-cut, run-tells}
+use Rattle.messages.proofs.RunLaws.{Single, Run, many-run, run-fits, run-cut}
 
 -- ---- one bias
 
@@ -110,11 +113,6 @@ module _ (s : List ℕ) (few : length s ≤ 1023) (a : ℕ) where
         (run-cut 19 (length s * 8) (cutBias s) (biases-run n) m p l (omega arith) c ∙ ap (λ (c : List ℕ). Refused 1 c) (cut-behind s (p + m * 19) h))
         (k ∙ ap (λ (q : ℕ). cutAt (length s) q 14) e)
 
-  -- what accepted biases tell
-  pub biases-tell : (n p : ℕ) → p ≤ length s * 8 → {r : Reading (List Rec1059)} → many (biasAt s a) n p ≡ Accepted r
-      → (length (r .value) ≡ n) × (r .next ≡ p + n * 19) × (r .next ≤ length s * 8)
-  biases-tell n p h e = run-tells 19 (length s * 8) (cutBias s) (biases-run n) p h e
-
 -- ---- one satellite
 
 module _ (s : List ℕ) (p : ℕ) where
@@ -128,44 +126,27 @@ module _ (s : List ℕ) (p : ℕ) where
     satellite-cut-2 f = rw (e, f)
 
     pub satellite-read : {n r : ℕ} → readUnsigned s q 5 ≡ Accepted (reading n r) → satelliteAt s p ≡ many (biasAt s a) n r
-    unfolding satelliteAt
-    satellite-read f = rw (e, f)
+    unfolding satelliteAt biasAt
+    satellite-read {n} {r} f = rw (e, f) (behind-both a n (readEach bias1059 n s r) ∙ sym (many-same bias1059 (ofBias a) s n r))
 
--- ---- a satellite has at most 31 biases, and 11 bits beside them
-
-pub record Sized (s : List ℕ) (p : ℕ) (r : Reading (List Rec1059)) : Type 0 where
-  pub few : length (r .value) ≤ 31
-  pub end : r .next ≡ p + 11 + length (r .value) * 19
-  pub within : r .next ≤ length s * 8
-
-pub satellite-tells : (s : List ℕ) (p : ℕ) → length s ≤ 1023 → {r : Reading (List Rec1059)} → satelliteAt s p ≡ Accepted r → Sized s p r
-unfolding satelliteAt
-satellite-tells s p few {r} e = go (readUnsigned s p 6) refl e
-  where
-    biases : (a q : ℕ) → q ≡ p + 6 → (t : Told (Reading ℕ)) → readUnsigned s q 5 ≡ t → andThen t (λ n. many (biasAt s a) (n .value) (n .next)) ≡ Accepted r → Sized s p r
-    biases a q d (Refused m carried) f e = let z : _≡_ {A = ℕ} 0 1 = cc in absurd (omega arith)
-    biases a q d (Accepted n) f e =
-        let w = value-within s q 5 f in
-        let t = biases-tell s few a (n .value) (n .next) (omega arith) e in
-        record { few = omega arith; end = omega arith; within = t .2 }
-
-    go : (t : Told (Reading ℕ)) → readUnsigned s p 6 ≡ t → andThen t (λ a. andThen (readUnsigned s (a .next) 5) (λ n. many (biasAt s (a .value)) (n .value) (n .next))) ≡ Accepted r → Sized s p r
-    go (Refused m carried) f e = let z : _≡_ {A = ℕ} 0 1 = cc in absurd (omega arith)
-    go (Accepted a) f e = biases (a .value) (a .next) (value-within s p 6 f .1) (readUnsigned s (a .next) 5) refl e
-
--- so a count grows by at most 31
+-- a satellite has at most 31 biases, so a count grows by at most 31
 pub few-more : (s : List ℕ) (p : ℕ) → length s ≤ 1023 → (i : ℕ) {j q : ℕ} → Accepted (counted j q) ≡ counts i (satelliteAt s p) → j ≤ i + 31
-few-more s p few i e =
+unfolding satelliteAt
+few-more s p few i {j} {q} e =
     let t = counted-tells i (satelliteAt s p) e in
-    omega (arith, t .count, satellite-tells s p few (t .is) .few)
+    let a = read-as ofSat (satellite1059 .reads s p) (t .is) in
+    let g = good (a .0) (satellite-good .faithful .there s p (reading (a .0) q) (a .1) .fitting) in
+    omega (arith, t .count, ap length (a .2), own-length (a .0 .0) (a .0 .1), g .thin)
 
 -- ---- the block, by its satellite count
 
 pub block-cut : (s : List ℕ) (p : ℕ) {carried : List ℕ} → readUnsigned s p 6 ≡ Refused 1 carried → readBlock1059 s p ≡ Refused 1 carried
-block-cut s p e = sym (block-same s p) ∙ rw e
+unfolding readBlock1059
+block-cut s p e = rw e
 
 pub block-read : (s : List ℕ) (p : ℕ) {n q : ℕ} → readUnsigned s p 6 ≡ Accepted (reading n q) → readBlock1059 s p ≡ many (satelliteAt s) n q
-block-read s p e = sym (block-same s p) ∙ rw e
+unfolding readBlock1059 satelliteAt
+block-read s p {n} {q} e = rw e (behind-count flat1059 n (readEach satellite1059 n s q) ∙ sym (many-same satellite1059 ofSat s n q))
 
 -- ---- the call
 

@@ -14,18 +14,20 @@ use Rattle.bits.specs.Field.{missing, cutAt, Reading, reading, readUnsigned, fi
 use Rattle.bits.specs.Outcome.{Outcome, outcome, refusing}
 use Rattle.bits.specs.Signed.{twosOf}
 use Rattle.bits.proofs.ReadLaws.{reads-value, reads-short}
-use Rattle.messages.specs.Records.{Rec1230, Counted, counted, rec1230}
-use Rattle.messages.specs.Layout1230.{maskSignals}
-use Rattle.messages.specs.StepsRead1230.{masked, biasesAt}
+use Rattle.formats.specs.Format.{twos, readEach}
+use Rattle.messages.specs.Records.{Rec1230, Counted, counted, rec1230, records1230}
+use Rattle.messages.specs.Reader.{asRecords}
+use Rattle.messages.specs.Layout1230.{maskSignals, masked, flat1230}
+use Rattle.messages.specs.StepsRead1230.{biasesAt}
 use Rattle.messages.specs.Read1230.{readBlock1230, filled1230, read1230}
 use Rattle.messages.specs.StepsRead.{Lists1230, lists1230, put1230, counts, Suffices, Stored, before}
 use Rattle.messages.specs.Writer.{keep}
-use Rattle.messages.proofs.Layout1230Laws.{block-same}
+use Rattle.messages.proofs.Layout1230Laws.{biases-none, biases-next}
 use Rattle.messages.proofs.CallLaws.{Call}
 use Rattle.messages.proofs.StoreLaws.{put1230-front, put1230-on, Doing, left-as, step-suffices, step-read, step-stored}
 use Rattle.messages.proofs.ArmLaws.{IsRefused}
 use Rattle.messages.proofs.PassLaws.{chain, counts-short, stored-one}
-use Rattle.messages.proofs.RunLaws.{Single, Run, none, more, run-fits, run-cut, run-tells}
+use Rattle.messages.proofs.RunLaws.{Single, Run, none, more, run-fits, run-cut}
 
 -- ---- the mask
 
@@ -73,19 +75,17 @@ masked-lacks s k m p h e =
     (masked-step k m h ∙ drops (m / 2 ^ (3 - k)) (getD maskSignals k 0) (masked (drop (k + 1) maskSignals) m) e)
 
 pub masked-none : (s : List ℕ) (k m p : ℕ) → 4 ≤ k → k ≤ 4 → biasesAt s (masked (drop k maskSignals) m) p ≡ Accepted (reading [] p)
-unfolding masked biasesAt
-masked-none s k m p h l = let e : k ≡ 4 = omega arith in rw e
+unfolding masked
+masked-none s k m p h l = let e : k ≡ 4 = omega arith in rw e (biases-none s p)
 
 -- ---- one bias, and the others behind it
 
 module _ (s : List ℕ) (g p : ℕ) where
   pub bias-cut : {carried : List ℕ} → readTwos s p 16 ≡ Refused 1 carried → biasesAt s (g ∷ []) p ≡ Refused 1 carried
-  unfolding biasesAt
-  bias-cut e = rw e
+  bias-cut e = rw (biases-next s g [] p, e)
 
   pub bias-read : {z : ℤ} {q : ℕ} → readTwos s p 16 ≡ Accepted (reading z q) → biasesAt s (g ∷ []) p ≡ Accepted (reading (rec1230 g z ∷ []) q)
-  unfolding biasesAt
-  bias-read e = rw e
+  bias-read {z} {q} e = rw (biases-next s g [] p, e, biases-none s q)
 
   -- and its record is stored at place i
   pub bias-stored : (i : ℕ) (gs : List ℕ) (zs : List ℤ) {q : ℕ} {z y : ℤ} → readTwos s p 16 ≡ Accepted (reading z q) → y ≡ z
@@ -94,13 +94,12 @@ module _ (s : List ℕ) (g p : ℕ) where
   bias-stored i gs zs e d = stored-one put1230 (bias-read e) (ap (λ (x : ℤ). lists1230 (set gs i g) (set zs i x)) d)
 
   pub biases-on : (gs : List ℕ) → biasesAt s (g ∷ gs) p ≡ chain (biasesAt s (g ∷ []) p) (biasesAt s gs)
-  unfolding biasesAt
-  biases-on gs = go (readTwos s p 16)
+  biases-on gs = biases-next s g gs p ∙ go (readTwos s p 16) ∙ sym (ap (λ (t : Told (Reading (List Rec1230))). chain t (biasesAt s gs)) (biases-next s g [] p))
     where
       go : (t : Told (Reading ℤ))
           → andThen t (λ z. before (rec1230 g (z .value) ∷ []) (biasesAt s gs (z .next)))
-          ≡ chain (andThen t (λ z. before (rec1230 g (z .value) ∷ []) (Accepted (reading [] (z .next))))) (biasesAt s gs)
-      go (Accepted z) = refl
+          ≡ chain (andThen t (λ z. before (rec1230 g (z .value) ∷ []) (biasesAt s [] (z .next)))) (biasesAt s gs)
+      go (Accepted z) = rw (biases-none s (z .next))
       go (Refused n carried) = refl
 
 -- ---- the biases: 16 bits each
@@ -119,8 +118,7 @@ module _ (s : List ℕ) (few : length s ≤ 1023) where
       }
 
   biases-run : (gs : List ℕ) → Run 16 (length s * 8) (cutBias s) (length gs) (biasesAt s gs)
-  unfolding biasesAt
-  biases-run [] = none (λ p. refl)
+  biases-run [] = none (λ p. biases-none s p)
   biases-run (g ∷ gs) = more (one-bias g) (λ p. biases-on s g p gs) (biases-run gs)
 
   module _ (gs : List ℕ) (n p : ℕ) (e : length gs ≡ n) where
@@ -136,10 +134,6 @@ module _ (s : List ℕ) (few : length s ≤ 1023) where
         → {answer : Told Counted} → answer ≡ cutAt (length s) (p + m * 16) 16 → answer ≡ counts 0 (biasesAt s gs p)
     no-bias m l h c =
         counts-short 0 (run-cut 16 (length s * 8) (cutBias s) (biases-run gs) m p (omega arith) h c)
-
-  pub biases-tell : (gs : List ℕ) (p : ℕ) → p ≤ length s * 8 → {r : Reading (List Rec1230)} → biasesAt s gs p ≡ Accepted r
-      → (length (r .value) ≡ length gs) × (r .next ≡ p + length gs * 16) × (r .next ≤ length s * 8)
-  biases-tell gs p h e = run-tells 16 (length s * 8) (cutBias s) (biases-run gs) p h e
 
 -- ---- a turn of the second pass at signal k, whose bit is set; l is the code's list of the signals
 
@@ -170,10 +164,16 @@ module _ (s l : List ℕ) (k m p : ℕ) (is : l ≡ maskSignals) (h : k < 4) (bi
 -- ---- the block, by its mask
 
 pub block-cut : (s : List ℕ) (p : ℕ) {carried : List ℕ} → readUnsigned s p 4 ≡ Refused 1 carried → readBlock1230 s p ≡ Refused 1 carried
-block-cut s p e = sym (block-same s p) ∙ rw e
+unfolding readBlock1230
+block-cut s p e = rw e
 
 pub block-read : (s : List ℕ) (p : ℕ) {m q : ℕ} → readUnsigned s p 4 ≡ Accepted (reading m q) → readBlock1230 s p ≡ biasesAt s (masked maskSignals m) q
-block-read s p e = sym (block-same s p) ∙ rw e
+unfolding readBlock1230 biasesAt
+block-read s p {m} {q} e = rw e (go (readEach (twos 16) (length (masked maskSignals m)) s q))
+  where
+    go : (t : Told (Reading (List ℤ))) → asRecords flat1230 (andThen t (λ zs. Accepted (reading {A = ℕ × List ℤ} (m, zs .value) (zs .next)))) ≡ asRecords (records1230 (masked maskSignals m)) t
+    go (Accepted zs) = refl
+    go (Refused n carried) = refl
 
 -- ---- the call
 

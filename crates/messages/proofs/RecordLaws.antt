@@ -1,12 +1,12 @@
 -- Records in lists of their parts: the records from a place on, one by one. Assumes nothing.
-use mathlib.Core.Path.{_≡_, ap, ap₂, _∙_}
-use mathlib.Core.List.{List, [], _∷_}
+use mathlib.Core.Path.{_≡_, refl, ap, ap₂, _∙_}
+use mathlib.Core.List.{List, [], _∷_, map}
 use Prim.Native.Nat.{ℕ, suc, _≤_, _<_}
 use native.Mathlib.Omega.{arith}
 use lib.ListN.{length, drop, getD, drop-of-length-le}
 use lib.IntN.{ℤ, pos}
 use lib.Seq.{drop-cons}
-use Rattle.messages.specs.Records.{Rec1059, rec1059, records1059, Rec1230, rec1230, records1230}
+use Rattle.messages.specs.Records.{Rec1059, rec1059, records1059, Rec1230, rec1230, signalOf1230, biasOf1230, records1230}
 
 -- the records from place i on
 abbrev pub from1059 : List ℕ → List ℕ → List ℤ → ℕ → List Rec1059
@@ -35,3 +35,16 @@ next1230 gs zs l i h = ap₂ records1230 (drop-cons gs i 0 h) (drop-cons zs i (p
 pub end1230 : (gs : List ℕ) (zs : List ℤ) (i : ℕ) → length gs ≤ i → from1230 gs zs i ≡ []
 unfolding records1230
 end1230 gs zs i h = ap (λ (x : List ℕ). records1230 x (drop i zs)) (drop-of-length-le gs h)
+
+-- the parts of records are the lists, and the records of their parts they themselves
+pub parts1230 : (gs : List ℕ) (zs : List ℤ) → length gs ≡ length zs → (map signalOf1230 (records1230 gs zs) ≡ gs) × (map biasOf1230 (records1230 gs zs) ≡ zs)
+unfolding records1230
+parts1230 [] [] l = (refl, refl)
+parts1230 [] (z ∷ zs) l = absurd (omega arith)
+parts1230 (g ∷ gs) [] l = absurd (omega arith)
+parts1230 (g ∷ gs) (z ∷ zs) l = let r = parts1230 gs zs (omega arith) in (ap (λ (l : List ℕ). g ∷ l) (r .0), ap (λ (l : List ℤ). z ∷ l) (r .1))
+
+pub columns1230 : (rs : List Rec1230) → records1230 (map signalOf1230 rs) (map biasOf1230 rs) ≡ rs
+unfolding records1230
+columns1230 [] = refl
+columns1230 (rec1230 g z ∷ rs) = ap (λ (l : List Rec1230). rec1230 g z ∷ l) (columns1230 rs)

@@ -50,7 +50,7 @@ none-first same i k seen ks = not-refused 7 (i ∷ []) (isAmong same k seen) (fi
 
 -- ---- signals of message 1230
 
--- where no signal repeats, none has two biases
+-- where no signal repeats, those of the list have one bias, and no other has one
 module _ (g : ℕ) where
   none-again : (i : ℕ) (seen gs : List ℕ) (zs : List ℤ) → firstRepeat eqb i seen gs ≡ fine → isIn g seen ≡ true → ofSignal g (records1230 gs zs) ≡ []
   unfolding ofSignal isAmong records1230
@@ -65,15 +65,15 @@ module _ (g : ℕ) where
       go true q n ih = let e = ap (λ (x : ℕ). isIn x seen) (eqb-true k g q) in let x : _≡_ {A = ℕ} 0 1 = cc in absurd (omega arith)
       go false q n ih = ih h
 
-  pub once : (i : ℕ) (seen gs : List ℕ) (zs : List ℤ) → firstRepeat eqb i seen gs ≡ fine → length (ofSignal g (records1230 gs zs)) ≤ 1
+  pub once : (i : ℕ) (seen gs : List ℕ) (zs : List ℤ) → length gs ≡ length zs → firstRepeat eqb i seen gs ≡ fine → length (ofSignal g (records1230 gs zs)) ≡ cond (isIn g gs) 1 0
   unfolding ofSignal isAmong records1230
-  once i seen [] zs f = omega arith
-  once i seen (k ∷ gs) [] f = omega arith
-  once i seen (k ∷ gs) (z ∷ zs) f =
+  once i seen [] zs l f = refl
+  once i seen (k ∷ gs) [] l f = absurd (omega arith)
+  once i seen (k ∷ gs) (z ∷ zs) l f =
       let n = none-first eqb i k seen gs f in
-      go (eqb k g) (none-again (suc i) (k ∷ seen) gs zs (n .1)) (once (suc i) (k ∷ seen) gs zs (n .1))
+      go (eqb k g) (none-again (suc i) (k ∷ seen) gs zs (n .1)) (once (suc i) (k ∷ seen) gs zs (omega arith) (n .1))
     where
-      go : (b : Bool) → (cond b true (isIn g seen) ≡ true → ofSignal g (records1230 gs zs) ≡ []) → length (ofSignal g (records1230 gs zs)) ≤ 1
-          → length (keep b z (ofSignal g (records1230 gs zs))) ≤ 1
+      go : (b : Bool) → (cond b true (isIn g seen) ≡ true → ofSignal g (records1230 gs zs) ≡ []) → length (ofSignal g (records1230 gs zs)) ≡ cond (isIn g gs) 1 0
+          → length (keep b z (ofSignal g (records1230 gs zs))) ≡ cond (cond b true (isIn g gs)) 1 0
       go true n ih = omega (arith, ap length (n refl))
       go false n ih = ih

@@ -6,37 +6,30 @@ use native.Mathlib.Omega.{arith}
 use lib.ListN.{length, length-map}
 use lib.IntN.{ℤ}
 use Rattle.bits.specs.Told.{Accepted}
-use Rattle.bits.specs.Outcome.{Outcome, outcome}
+use Rattle.bits.specs.Outcome.{outcome}
 use Rattle.bits.specs.Field.{reading}
-use Rattle.bits.specs.Fields.{total, putAll, Holds}
-use Rattle.formats.proofs.UseLaws.{written-reads}
-use Rattle.messages.specs.Reader.{asRecords}
+use Rattle.bits.specs.Fields.{total, putAll}
+use Rattle.formats.specs.WrittenBack.{WrittenBack}
+use Rattle.formats.proofs.UseLaws.{call-reads-back, call-writes-back}
 use Rattle.messages.specs.Records.{Rec1059, rec1059, satelliteOf, signalOf1059, biasOf1059, records1059}
 use Rattle.messages.specs.Layout1059.{block1059, Sat, flat1059, grouped1059}
 use Rattle.messages.specs.Read1059.{readBlock1059}
 use Rattle.messages.specs.Write1059.{fields1059, write1059}
 use Rattle.messages.specs.Satellites1059.{satellites1059, Regular}
 use Rattle.messages.specs.InOrder.{inOrder1059}
-use Rattle.messages.specs.WrittenBack.{WrittenBack}
-use Rattle.messages.proofs.Accepts1059.{Writes, edition-known, call-written, call-accepted}
+use Rattle.messages.proofs.Accepts1059.{Fine, edition-known, call-written, call-accepted}
 use Rattle.messages.proofs.Layout1059Laws.{block-good, same-count}
 use Rattle.messages.proofs.Grouped1059Laws.{grouped-again, flat-grouped}
 use Rattle.messages.proofs.Fits1059Laws.{block-tells, grouped-fits, all-writable, thin-of}
-use Rattle.messages.proofs.StandLaws.{put-back}
 
 -- a block that was written is there
 pub block-again-1059 : (e : ℕ) (s : List ℕ) (p : ℕ) (sats gs : List ℕ) (zs : List ℤ) {q : ℕ} → write1059 e s p sats gs zs .answer ≡ Accepted q
     → readBlock1059 (write1059 e s p sats gs zs .areas) p ≡ Accepted (reading (inOrder1059 (records1059 sats gs zs)) q)
 unfolding readBlock1059 fields1059
-block-again-1059 e s p sats gs zs {q} h =
+block-again-1059 e s p sats gs zs h =
     let w = call-accepted e s p sats gs zs h in
     let rs = records1059 sats gs zs in
-    let i = call-written e s p sats gs zs w in
-    let end : p + total (fields1059 rs) ≡ q = cc (h, ap (λ (x : Outcome ℕ (List ℕ)). x .answer) i) in
-    ap (λ (x : Outcome ℕ (List ℕ)). asRecords flat1059 (block1059 .reads (x .areas) p)) i
-    ∙ ap (asRecords flat1059) (written-reads block1059 (block-good .faithful) s p (grouped1059 rs) (w .few) (grouped-fits e rs (w .records)) (w .within))
-    ∙ ap (λ (xs : List Rec1059). Accepted (reading xs (p + total (fields1059 rs)))) (flat-grouped rs)
-    ∙ ap (λ (k : ℕ). Accepted (reading (inOrder1059 rs) k)) end
+    call-reads-back block1059 (block-good .faithful) s p flat1059 (w .few) (grouped-fits e rs (w .records)) (w .within) (call-written e s p sats gs zs w) h (flat-grouped rs)
 
 -- the columns of records are records again
 columns1059 : (rs : List Rec1059) → records1059 (map satelliteOf rs) (map signalOf1059 rs) (map biasOf1059 rs) ≡ rs
@@ -51,20 +44,24 @@ pub block-back-1059 : (e : ℕ) (s : List ℕ) (p : ℕ) {q : ℕ} (xs : List Sa
 unfolding fields1059
 block-back-1059 e s p {q} xs h regular t r few room =
     let rs = flat1059 xs in
-    let x = block-good .faithful .there s p (reading xs q) h in
-    let b = block-tells xs (x .fitting) in
-    let same : grouped1059 rs ≡ xs = grouped-again xs (regular .ascending) (b .low) (regular .biased) in
-    let long : total (fields1059 rs) ≡ q - p = ap (λ (ys : List Sat). total (block1059 .fields ys)) same ∙ omega (arith, x .ends) in
-    let stands : Holds s p (fields1059 rs) = rw same (x .holds) in
-    let w : Writes e t r (map satelliteOf rs) (map signalOf1059 rs) (map biasOf1059 rs) =
+    let b = block-tells xs (block-good .faithful .there s p (reading xs q) h .fitting) in
+    let same : grouped1059 rs ≡ xs = grouped-again xs (regular .ascending) (b .satellites) (regular .biased) in
+    let fine : Fine e rs =
     record {
+      clean = all-writable e xs (b .satellites) (regular .assigned);
+      thin = thin-of rs 64 0 (rw same (b .satellites));
+      fewer = λ z. omega (arith, z, same-count rs 64 0, ap length same, b .fewer);
+      single = regular .single;
+    } in
+    call-writes-back block1059 (block-good .faithful) s p h same t r room (λ within.
+    call-written e t r (map satelliteOf rs) (map signalOf1059 rs) (map biasOf1059 rs)
+    (record {
       edition = edition-known e (regular .known);
       few = few;
       signals = length-map rs satelliteOf ∙ sym (length-map rs signalOf1059);
       biases = length-map rs satelliteOf ∙ sym (length-map rs biasOf1059);
       most = omega (arith, length-map rs satelliteOf, b .records, b .fewer);
-      records = rw (columns1059 rs) (record { clean = all-writable e xs (b .satellites) (regular .assigned); thin = thin-of rs 64 0 (rw same (b .satellites)); fewer = λ z. omega (arith, z, same-count rs, ap length same, b .fewer); single = regular .single });
-      within = rw (columns1059 rs) (omega (arith, long));
-    } in
-    put-back s p q t r (fields1059 rs) stands long (omega (arith, long))
-    (call-written e t r (map satelliteOf rs) (map signalOf1059 rs) (map biasOf1059 rs) w ∙ ap (λ (x : List Rec1059). outcome (Accepted (r + total (fields1059 x))) (putAll t r (fields1059 x))) (columns1059 rs))
+      records = rw (columns1059 rs) fine;
+      within = rw (columns1059 rs) within;
+    })
+    ∙ ap (λ (x : List Rec1059). outcome (Accepted (r + total (fields1059 x))) (putAll t r (fields1059 x))) (columns1059 rs))

@@ -3,14 +3,12 @@ use mathlib.Core.Path.{_≡_, refl, sym, ap, ap₂, _∙_}
 use mathlib.Core.List.{List, [], _∷_}
 use Prim.Native.Nat.{ℕ, zero, suc, _+_, _*_, _≤_, _<_}
 use native.Mathlib.Nat.{add-zero, zero-mul, suc-mul}
-use native.Mathlib.Decide.{decLt}
 use native.Mathlib.Omega.{arith}
-use lib.ListN.{length, length-append}
 use Rattle.bits.specs.Told.{Told, Accepted, Refused}
 use Rattle.bits.specs.Field.{Reading, reading}
 use Rattle.messages.specs.StepsRead.{before, many, counts}
 use Rattle.messages.specs.Records.{counted}
-use Rattle.messages.proofs.PassLaws.{chain, both-read, counts-before}
+use Rattle.messages.proofs.PassLaws.{chain, counts-before}
 
 module _ {A : Type 0} (w most : ℕ) (cut : ℕ → List ℕ) where
   -- f reads one record of w bits where it ends by bit `most`, and else is cut short and carries what `cut` tells
@@ -56,30 +54,3 @@ module _ {A : Type 0} (w most : ℕ) (cut : ℕ → List ℕ) where
       let t = run-cut r m (p + w) (omega arith) (omega arith) (omega arith) in
       e p ∙ ap (λ (u : Told (Reading (List A))). chain u rest) g
       ∙ ap (before (o .record-of p ∷ [])) t ∙ ap (λ (x : ℕ). Refused 1 (cut x)) (omega arith)
-
-  -- what an accepted run tells: its records, its end, and that it is there
-  pub run-tells : {n : ℕ} {run : ℕ → Told (Reading (List A))} → Run n run → (p : ℕ) → p ≤ most → {r : Reading (List A)} → run p ≡ Accepted r
-      → (length (r .value) ≡ n) × (r .next ≡ p + n * w) × (r .next ≤ most)
-  run-tells (none e) p h {r} a =
-      let d : reading [] p ≡ r = cc (e p) in
-      let l = ap (λ (x : Reading (List A)). length (x .value)) d in
-      let q = ap (λ (x : Reading (List A)). x .next) d in
-      let z = zero-mul w in
-      (omega arith, omega arith, omega arith)
-  run-tells (more {n} {f} {rest} {run} o e r) p h {r = x} a = go (λ q l y b. run-tells r q l {r = y} b) (decLt most (p + w))
-    where
-      go : ((q : ℕ) → q ≤ most → (y : Reading (List A)) → rest q ≡ Accepted y → (length (y .value) ≡ n) × (y .next ≡ q + n * w) × (y .next ≤ most))
-          → Dec (most < p + w) → (length (x .value) ≡ suc n) × (x .next ≡ p + suc n * w) × (x .next ≤ most)
-      go later (yes l) =
-          let d : run p ≡ Refused 1 (cut p) = e p ∙ ap (λ (u : Told (Reading (List A))). chain u rest) (o .cuts p l) in
-          let z : _≡_ {A = ℕ} 0 1 = cc in
-          absurd (omega arith)
-      go later (no l) =
-          let b = both-read (f p) rest (sym (e p) ∙ a) in
-          let g : b .first ≡ reading (o .record-of p ∷ []) (p + w) = cc (o .fits p (omega arith)) in
-          let v = ap (λ (y : Reading (List A)). length (y .value)) g in
-          let q = ap (λ (y : Reading (List A)). y .next) g in
-          let t = later (b .first .next) (omega arith) (b .second) (b .second-is) in
-          let m = suc-mul n w in
-          let j = ap length (b .value) ∙ length-append (b .first .value) (b .second .value) in
-          (omega (arith, t .0), omega (arith, t .1, b .next), omega (arith, t .2, b .next))

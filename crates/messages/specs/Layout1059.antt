@@ -1,9 +1,10 @@
 -- The bias block of message 1059 as the standard's table has it, and the records that it stands for. Assumes nothing.
-use mathlib.Core.List.{List, [], _∷_, _++_, map}
+use mathlib.Core.List.{List, [], _∷_, map}
 use Prim.Native.Nat.{ℕ, zero, suc}
 use lib.IntN.{ℤ}
 use lib.Dec.{eqb}
 use Rattle.formats.specs.Format.{Format, unsigned, twos, _then_, counted}
+use Rattle.messages.specs.Every.{gather}
 use Rattle.messages.specs.Records.{Rec1059, rec1059}
 use Rattle.messages.specs.Writer.{keep}
 
@@ -26,11 +27,6 @@ block1059 = counted 6 satellite1059
 -- a satellite as it stands in a block: its number, and the signal and raw bias of each of its biases
 abbrev pub Sat : Type 0
 Sat = ℕ × List (ℕ × ℤ)
-
--- what each gives, one behind the other
-unfoldable pub gather : {A B : Type 0} → (A → List B) → List A → List B
-gather g [] = []
-gather g (x ∷ xs) = g x ++ gather g xs
 
 -- the record of a bias of satellite a; a reserved signal is kept as its number
 abbrev pub ofBias : ℕ → ℕ × ℤ → List Rec1059

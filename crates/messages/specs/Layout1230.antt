@@ -1,45 +1,35 @@
 -- The bias block of message 1230 as the standard's table has it, and the records that it stands for. Assumes nothing.
 use mathlib.Core.Bool.{cond}
-use mathlib.Core.List.{List, [], _∷_, _++_, map}
-use Prim.Native.Nat.{ℕ, _+_, _/_, _%_, _^_}
+use mathlib.Core.List.{List, [], _∷_, map}
+use Prim.Native.Nat.{ℕ, _+_, _*_, _/_, _%_, _^_}
 use lib.ListN.{length}
 use lib.IntN.{ℤ}
 use lib.Dec.{eqb}
-use Rattle.formats.specs.Format.{Format, unsigned, twos, next, _then_, times}
-use Rattle.messages.specs.Records.{Rec1230, rec1230}
-use Rattle.messages.specs.Writer.{keep}
+use Rattle.formats.specs.Format.{Format, unsigned, twos, next, times}
+use Rattle.messages.specs.Every.{gather}
+use Rattle.messages.specs.Records.{Rec1230, rec1230, signalOf1230, records1230}
+use Rattle.messages.specs.Writer.{keep, isAmong}
 
 -- ---- the table
-
--- a bias (16 bits, two's complement), where bit k of the mask m is set
-abbrev pub bias1230 : ℕ → ℕ → Format (List ℤ)
-bias1230 m k = times (m / 2 ^ k % 2) (twos 16)
-
--- four lists, of one bias or none each
-abbrev pub Four : Type 0
-Four = List ℤ × (List ℤ × (List ℤ × List ℤ))
-
--- the biases of 1C, 1P, 2C and 2P: DF423, DF424, DF425, DF426
-abbrev pub biases1230 : ℕ → Format Four
-biases1230 m = bias1230 m 3 then bias1230 m 2 then bias1230 m 1 then bias1230 m 0
-
--- DF422 the mask (4 bits), and the biases that it names
-abbrev pub block1230 : Format (ℕ × Four)
-block1230 = next (unsigned 4) biases1230
-
--- ---- the records of a block
 
 -- the signals of the mask from its top bit, 1C, 1P, 2C and 2P, by their glo numbers
 abbrev pub maskSignals : List ℕ
 maskSignals = 2 ∷ 3 ∷ 8 ∷ 9 ∷ []
 
--- the records of the biases of each, in that order
-abbrev pub ofFour : Four → List Rec1230
-ofFour x = map (rec1230 2) (x .0) ++ (map (rec1230 3) (x .1 .0) ++ (map (rec1230 8) (x .1 .1 .0) ++ (map (rec1230 9) (x .1 .1 .1) ++ [])))
+-- the signals of gs whose bit of the mask m is set; the last signal's bit is the lowest
+unfoldable pub masked : List ℕ → ℕ → List ℕ
+masked [] m = []
+masked (g ∷ gs) m = keep (eqb (m / 2 ^ length gs % 2) 1) g (masked gs m)
 
--- the records of a block
-abbrev pub flat1230 : ℕ × Four → List Rec1230
-flat1230 x = ofFour (x .1)
+-- DF422 the mask (4 bits); DF423, DF424, DF425, DF426 the biases (16, two's complement) of those signals that it has
+abbrev pub block1230 : Format (ℕ × List ℤ)
+block1230 = next (unsigned 4) (λ m. times (length (masked maskSignals m)) (twos 16))
+
+-- ---- the records of a block
+
+-- a bias for each signal that the mask has
+abbrev pub flat1230 : ℕ × List ℤ → List Rec1230
+flat1230 x = records1230 (masked maskSignals (x .0)) (x .1)
 
 -- ---- the block of records
 
@@ -48,11 +38,11 @@ unfoldable pub ofSignal : ℕ → List Rec1230 → List ℤ
 ofSignal g [] = []
 ofSignal g (rec1230 h z ∷ rs) = keep (eqb h g) z (ofSignal g rs)
 
--- the mask: the bit of each signal of gs that has a bias, the last signal's lowest
-unfoldable pub maskOf : List ℕ → List Rec1230 → ℕ
-maskOf [] rs = 0
-maskOf (g ∷ gs) rs = cond (eqb (length (ofSignal g rs)) 0) 0 (2 ^ length gs) + maskOf gs rs
+-- the mask: the bit of each signal of gs that is one of hs, the last signal's lowest
+unfoldable pub maskOf : List ℕ → List ℕ → ℕ
+maskOf [] hs = 0
+maskOf (g ∷ gs) hs = cond (isAmong eqb g hs) 1 0 * 2 ^ length gs + maskOf gs hs
 
--- the mask of records, and the biases of each of its signals
-abbrev pub grouped1230 : List Rec1230 → ℕ × Four
-grouped1230 rs = (maskOf maskSignals rs, (ofSignal 2 rs, (ofSignal 3 rs, (ofSignal 8 rs, ofSignal 9 rs))))
+-- the mask of records, and their biases in its order
+abbrev pub grouped1230 : List Rec1230 → ℕ × List ℤ
+grouped1230 rs = (maskOf maskSignals (map signalOf1230 rs), gather (λ g. ofSignal g rs) maskSignals)

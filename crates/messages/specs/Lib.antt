@@ -3,6 +3,7 @@ pub mod Signals
 pub mod SignalOrder
 pub mod Signals1059
 pub mod Metres
+pub mod Every
 pub mod Records
 pub mod Reader
 pub mod Writer
@@ -14,11 +15,9 @@ pub mod Read1230
 pub mod Write1230
 pub mod Answers
 pub mod MarkedExamples
-pub mod Every
 pub mod InOrder
 pub mod Satellites1059
 pub mod I16
-pub mod WrittenBack
 pub mod StepsColumns
 pub mod StepsRead
 pub mod StepsRead1059

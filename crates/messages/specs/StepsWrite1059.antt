@@ -1,18 +1,19 @@
 -- What private functions of writing the 1059 block compute. No promise to a caller rests on this file. Assumes nothing.
 use mathlib.Core.Path.{_≡_}
 use mathlib.Core.Bool.{true, cond, not}
-use mathlib.Core.List.{List, [], _∷_, _++_}
-use Prim.Native.Nat.{ℕ, zero, suc, _+_, _≤_, _<_}
+use mathlib.Core.List.{List, [], _∷_, map}
+use Prim.Native.Nat.{ℕ, suc, _+_, _≤_, _<_}
 use lib.ListN.{length, getD, drop}
 use lib.IntN.{ℤ, pos}
 use lib.Dec.{eqb, ltb}
 use Rattle.bits.specs.Told.{Told, andThen, satellite, signal, range, tooMany}
-use Rattle.bits.specs.Signed.{fitsTwos, twosBits}
-use Rattle.bits.specs.Fields.{Field, bits}
+use Rattle.bits.specs.Signed.{fitsTwos}
+use Rattle.bits.specs.Fields.{Field}
 use Rattle.bits.specs.Outcome.{Outcome}
+use Rattle.formats.specs.Format.{fieldsEach}
 use Rattle.messages.specs.StepsColumns.{inMask}
 use Rattle.messages.specs.Writer.{fine, firstRepeat, writeRun}
-use Rattle.messages.specs.Layout1059.{ofSatellite}
+use Rattle.messages.specs.Layout1059.{bias1059, satellite1059, biasOf, withSome, groupedFrom}
 use Rattle.messages.specs.Records.{Rec1059, rec1059, records1059}
 use Rattle.messages.specs.Write1059.{crowded, present, samePair, fields1059, refused1059}
 use Rattle.messages.specs.declared.write1059.Fault.{Fault}
@@ -109,17 +110,14 @@ presentIn (c ∷ cs) = cond (eqb c 0) 0 1 + presentIn cs
 
 -- ---- the fields, as they are put
 
--- signal (5) and bias (14) of each record
+-- those of the biases of records
 unfoldable pub biasFields : List Rec1059 → List Field
-biasFields [] = []
-biasFields (rec1059 a g z ∷ rs) = bits 5 g ∷ bits 14 (twosBits 14 z) ∷ biasFields rs
+biasFields rs = fieldsEach bias1059 (map biasOf rs)
 
--- satellite a with its records: number (6), bias count (5), the biases; nothing where it has none
+-- those of satellite a with its records; none where it has none
 unfoldable pub satelliteFields : ℕ → List Rec1059 → List Field
-satelliteFields a [] = []
-satelliteFields a (r ∷ rs) = bits 6 a ∷ bits 5 (length (r ∷ rs)) ∷ biasFields (r ∷ rs)
+satelliteFields a rs = fieldsEach satellite1059 (withSome a rs [])
 
--- the n satellites from a on, ascending, the records of each in list order
+-- those of the n satellites from a on
 unfoldable pub satellitesFrom : ℕ → ℕ → List Rec1059 → List Field
-satellitesFrom a zero rs = []
-satellitesFrom a (suc n) rs = satelliteFields a (ofSatellite a rs) ++ satellitesFrom (suc a) n rs
+satellitesFrom a n rs = fieldsEach satellite1059 (groupedFrom a n rs)

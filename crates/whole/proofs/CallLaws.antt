@@ -16,9 +16,9 @@ use Rattle.bits.specs.Fields.{Field, total, putAll, Holds}
 use Rattle.bits.proofs.FieldsLaws.{put-all-outside}
 use Rattle.bits.proofs.OutcomeLaws.{Keeps, accepted-keeps}
 use Rattle.messages.specs.Records.{Counted, counted}
-use Rattle.messages.specs.WrittenBack.{WrittenBack}
-use Rattle.messages.proofs.StandLaws.{put-back}
-use Rattle.whole.specs.Whole.{Whole, whole, headed, raised, behind, before, fronted}
+use Rattle.formats.specs.WrittenBack.{WrittenBack}
+use Rattle.formats.proofs.StandLaws.{put-back}
+use Rattle.whole.specs.Whole.{Whole, whole, headed, raised, before, fronted}
 
 -- ---- what was accepted
 

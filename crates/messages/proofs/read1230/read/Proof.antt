@@ -2,8 +2,7 @@
 use mathlib.Core.Path.{refl, sym, ap, _∙_}
 use native.Mathlib.Omega.{arith}
 use Rattle.bits.specs.Answers.{toldUnsigned}
-use Rattle.messages.specs.Layout1230.{maskSignals}
-use Rattle.messages.specs.StepsRead1230.{masked}
+use Rattle.messages.specs.Layout1230.{maskSignals, masked}
 use Rattle.messages.specs.StepsRead.{put1230}
 use Rattle.messages.specs.Answers.{toldRead}
 use Rattle.messages.proofs.ArmLaws.{unsigned-cut, value-within, is-short, read-refused}

@@ -4,8 +4,8 @@ use Prim.Native.Nat.{_-_, _≤_}
 use native.Mathlib.Omega.{arith}
 use borrow.Author.Needs.{needs}
 use lib.ListN.{length, drop}
-use Rattle.messages.specs.Layout1230.{maskSignals}
-use Rattle.messages.specs.StepsRead1230.{masked, biasesAt}
+use Rattle.messages.specs.Layout1230.{maskSignals, masked}
+use Rattle.messages.specs.StepsRead1230.{biasesAt}
 use Rattle.messages.specs.StepsRead.{lists1230, put1230}
 use Rattle.messages.specs.Answers.{toldRead}
 use Rattle.messages.proofs.ArmLaws.{read-refused}

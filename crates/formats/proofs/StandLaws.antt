@@ -12,7 +12,7 @@ use Rattle.bits.specs.Fields.{Field, bits, total, putAll, Holds, Fit}
 use Rattle.bits.proofs.FieldLaws.{field-lt}
 use Rattle.bits.proofs.FieldsLaws.{put-all-holds, total-none, total-next, holds-first, holds-rest, fit-none, fit-next}
 use Rattle.bits.proofs.SameBits.{field-bit}
-use Rattle.messages.specs.WrittenBack.{WrittenBack}
+use Rattle.formats.specs.WrittenBack.{WrittenBack}
 
 -- a run that stands in two lists has the same bits in both
 same-run : (s t : List ℕ) (p r : ℕ) (fs : List Field) → Holds s p fs → Holds t r fs → (k : ℕ) → k < total fs → bitAt s (p + k) ≡ bitAt t (r + k)

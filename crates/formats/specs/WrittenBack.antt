@@ -1,4 +1,4 @@
--- What it means that a block is written back to the same bits. Assumes nothing.
+-- What it means that what was read is written back to the same bits. Assumes nothing.
 use mathlib.Core.Path.{_≡_}
 use mathlib.Core.List.{List}
 use Prim.Native.Nat.{ℕ, _+_, _-_, _<_}
