@@ -7,20 +7,21 @@ use native.Mathlib.Numerals.{add-one}
 use native.Mathlib.Omega.{arith}
 use borrow.Author.Tests.{lt-ltb, le-ltb, ltb-false}
 use lib.Dec.{eqb, ltb}
-use lib.ListN.{length, drop, getD, drop-of-length-le, length-append}
+use lib.ListN.{length, drop, getD, drop-of-length-le}
 use lib.Seq.{drop-cons}
 use Rattle.bits.specs.Told.{Told, tooMany}
 use Rattle.bits.specs.Fields.{total}
 use Rattle.bits.proofs.FieldsLaws.{total-next}
+use Rattle.messages.specs.Every.{Every}
 use Rattle.messages.specs.Writer.{fine}
-use Rattle.messages.specs.Records.{Rec1059}
+use Rattle.messages.specs.Records.{Rec1059, satelliteOf}
 use Rattle.messages.specs.Layout1059.{ofSatellite, grouped1059}
 use Rattle.messages.specs.Write1059.{crowded, present, fields1059}
-use Rattle.messages.specs.StepsWrite1059.{satellitesFrom, sumOf, crowdedIn, presentIn}
-use Rattle.messages.specs.InOrder.{recordsFrom}
+use Rattle.messages.specs.StepsWrite1059.{satellitesFrom, crowdedIn, presentIn}
 use Rattle.messages.proofs.Layout1059Laws.{same-count, fields-laid}
 use Rattle.messages.proofs.Grouped1059Laws.{flat-grouped}
 use Rattle.messages.proofs.Fits1059Laws.{total-satellites}
+use Rattle.messages.proofs.InOrderLaws.{in-order-1059}
 
 -- ---- the counts from satellite a on, as the code goes through them
 
@@ -32,10 +33,6 @@ module _ (cs : List ℕ) (a : ℕ) (h : a < length cs) where
   present-cons : presentIn (drop a cs) ≡ cond (eqb (getD cs a 0) 0) 0 1 + presentIn (drop (suc a) cs)
   unfolding presentIn
   present-cons = ap presentIn (drop-cons cs a 0 h)
-
-  sum-cons : sumOf (drop a cs) ≡ getD cs a 0 + sumOf (drop (suc a) cs)
-  unfolding sumOf
-  sum-cons = ap sumOf (drop-cons cs a 0 h)
 
   pub over-here : 31 < getD cs a 0 → crowdedIn a (drop a cs) ≡ tooMany a
   over-here l = crowded-cons ∙ ap (λ (b : Bool). cond b (tooMany a) (crowdedIn (suc a) (drop (suc a) cs))) (lt-ltb 31 (getD cs a 0) l)
@@ -56,10 +53,6 @@ not-over cs a h = ap (crowdedIn a) (drop-of-length-le cs h)
 pub present-none : (cs : List ℕ) (a : ℕ) → length cs ≤ a → presentIn (drop a cs) ≡ 0
 unfolding presentIn
 present-none cs a h = ap presentIn (drop-of-length-le cs h)
-
-sum-none : (cs : List ℕ) (a : ℕ) → length cs ≤ a → sumOf (drop a cs) ≡ 0
-unfolding sumOf
-sum-none cs a h = ap sumOf (drop-of-length-le cs h)
 
 -- none over 31: each count fits 5 bits
 pub counts-fit : (k : ℕ) (cs : List ℕ) → crowdedIn k cs ≡ fine → (i : ℕ) → i < length cs → getD cs i 0 < 32
@@ -90,13 +83,8 @@ module _ (rs : List Rec1059) (cs : List ℕ) (all : length cs ≡ 64) (e : (a : 
       ap₂ (λ (c m : ℕ). cond (eqb c 0) 0 1 + m) (sym (e a (omega arith))) (present-is n (suc a) (omega arith))
       ∙ sym (present-cons cs a (omega arith))
 
-  sum-is : (n a : ℕ) → a + n ≡ 64 → length (recordsFrom a n rs) ≡ sumOf (drop a cs)
-  unfolding recordsFrom
-  sum-is zero a h = sym (sum-none cs a (omega arith))
-  sum-is (suc n) a h = omega (arith, length-append (ofSatellite a rs) (recordsFrom (suc a) n rs), e a (omega arith), sum-is n (suc a) (omega arith), sum-cons cs a (omega arith))
-
-  -- the bits of the block
-  pub bits-is : total (fields1059 rs) ≡ 6 + presentIn cs * 11 + sumOf cs * 19
-  unfolding satellitesFrom
-  bits-is =
-      omega (arith, ap total (fields-laid rs), total-next 6 (present 0 64 rs) (satellitesFrom 0 64 rs), total-satellites (grouped1059 rs), same-count rs 64 0, present-is 64 0 refl, ap length (flat-grouped rs), sum-is 64 0 refl)
+-- the bits of the block: 6, 11 of a satellite that has records, and 19 of a record
+pub bits-is : (rs : List Rec1059) → Every (λ r. satelliteOf r ≤ 63) rs → total (fields1059 rs) ≡ 6 + present 0 64 rs * 11 + length rs * 19
+unfolding satellitesFrom
+bits-is rs low =
+    omega (arith, ap total (fields-laid rs), total-next 6 (present 0 64 rs) (satellitesFrom 0 64 rs), total-satellites (grouped1059 rs), same-count rs 64 0, ap length (flat-grouped rs), in-order-1059 rs low)

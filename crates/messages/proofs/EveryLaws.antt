@@ -10,3 +10,7 @@ module _ {A : Type 0} (P : A → Type 0) where
   pub every-split : (xs ys : List A) → Every P (xs ++ ys) → Every P xs × Every P ys
   every-split [] ys a = (tt, a)
   every-split (x ∷ xs) ys a = let r = every-split xs ys (a .1) in ((a .0, r .0), r .1)
+
+pub every-weak : {A : Type 0} {P Q : A → Type 0} → ((x : A) → P x → Q x) → (xs : List A) → Every P xs → Every Q xs
+every-weak f [] a = tt
+every-weak f (x ∷ xs) a = (f x (a .0), every-weak f xs (a .1))

@@ -6,14 +6,13 @@ use Prim.Native.Nat.{ℕ, zero, suc, _+_, _≤_, _<_}
 use native.Mathlib.Decide.{ℕ-discrete}
 use native.Mathlib.Omega.{arith}
 use borrow.Author.Tests.{eq-eqb, ne-eqb}
-use lib.ListN.{length, length-append}
+use lib.ListN.{length, getD, length-append}
 use lib.IntN.{ℤ}
 use Rattle.messages.specs.Every.{Every}
-use Rattle.messages.specs.Records.{Rec1059, rec1059, records1059}
+use Rattle.messages.specs.Records.{Rec1059, rec1059, satelliteOf, records1059}
 use Rattle.messages.specs.Writer.{keep}
 use Rattle.messages.specs.Layout1059.{ofSatellite}
 use Rattle.messages.specs.InOrder.{recordsFrom, inOrder1059}
-use Rattle.messages.proofs.Accepts1059.{Writable}
 
 module _ (b g : ℕ) (z : ℤ) (rs : List Rec1059) where
   abbrev more : List Rec1059
@@ -55,9 +54,17 @@ unfolding recordsFrom ofSatellite
 none zero a = refl
 none (suc n) a = none n (suc a)
 
-pub in-order-1059 : (e : ℕ) (rs : List Rec1059) → Every (Writable e) rs → length (inOrder1059 rs) ≡ length rs
-in-order-1059 e [] w = none 64 0
-in-order-1059 e (rec1059 b g z ∷ rs) w = inside b g z rs 64 0 (omega arith) (omega (arith, w .0 .low)) ∙ ap suc (in-order-1059 e rs (w .1))
+pub in-order-1059 : (rs : List Rec1059) → Every (λ r. satelliteOf r ≤ 63) rs → length (inOrder1059 rs) ≡ length rs
+in-order-1059 [] low = none 64 0
+in-order-1059 (rec1059 b g z ∷ rs) low = inside b g z rs 64 0 (omega arith) (omega (arith, low .0)) ∙ ap suc (in-order-1059 rs (low .1))
+
+-- satellites that are low are so in the records
+pub low-records : (sats gs : List ℕ) (zs : List ℤ) → ((i : ℕ) → i < length sats → getD sats i 0 < 64) → Every (λ r. satelliteOf r ≤ 63) (records1059 sats gs zs)
+unfolding records1059
+low-records [] gs zs l = tt
+low-records (a ∷ sats) [] zs l = tt
+low-records (a ∷ sats) (g ∷ gs) [] l = tt
+low-records (a ∷ sats) (g ∷ gs) (z ∷ zs) l = (omega (arith, l 0 (omega arith)), low-records sats gs zs (λ i h. l (suc i) (omega arith)))
 
 pub length-records : (sats gs : List ℕ) (zs : List ℤ) → length sats ≡ length gs → length sats ≡ length zs → length (records1059 sats gs zs) ≡ length sats
 unfolding records1059

@@ -12,7 +12,7 @@ use lib.Seq.{drop-cons, getD-set-same, getD-set-other}
 use lib.IntN.{ℤ, pos}
 use Rattle.bits.specs.Signed.{twosBits}
 use Rattle.bits.specs.Fields.{bits}
-use Rattle.messages.specs.StepsWrite1059.{placeOf, nextOf, countOf, sumOf, Links, Linked, biasFields, satelliteFields}
+use Rattle.messages.specs.StepsWrite1059.{placeOf, nextOf, countOf, Links, Linked, biasFields, satelliteFields}
 use Rattle.messages.specs.Records.{Rec1059, rec1059, records1059}
 use Rattle.messages.specs.Writer.{keep}
 use Rattle.messages.specs.Layout1059.{ofSatellite}
@@ -94,17 +94,7 @@ link-next sats links l a i h e = l .link i (omega arith) h ∙ ap (λ (b : ℕ).
 
 -- ---- linking
 
-sum-more : (cs : List ℕ) (b c : ℕ) → b < length cs → getD cs b 0 ≡ c → sumOf (set cs b (c + 1)) ≡ sumOf cs + 1
-unfolding sumOf
-sum-more [] b c h e = absurd (omega arith)
-sum-more (x ∷ cs) zero c h e = omega arith
-sum-more (x ∷ cs) (suc b) c h e = omega (arith, sum-more cs b c (omega arith) e)
-
 -- where nothing is linked yet
-none-counted : sumOf (replicate 64 0) ≡ 0
-unfolding sumOf
-none-counted = refl
-
 pub linked-none : (sats : List ℕ) → Linked sats (replicate 64 (length sats)) (replicate 1953 0) (replicate 64 0) (length sats)
 linked-none sats =
     record {
@@ -114,7 +104,6 @@ linked-none sats =
       head = λ a l. getD-replicate 64 a (length sats) 0 l ∙ sym (next-end sats a (length sats) (omega arith));
       chain = record { link = λ j l m. absurd (omega arith) };
       count = λ a l. getD-replicate 64 a 0 0 l ∙ sym (count-end sats a (length sats) (omega arith));
-      sum = omega (arith, none-counted);
     }
 
 -- the place i is linked before those behind it
@@ -144,7 +133,6 @@ module _ (sats heads links counts : List ℕ) (i b : ℕ) (h : i < length sats) 
         head = λ a k. head-more a k (ℕ-discrete a b);
         chain = record { link = λ j m k. link-more j m k (ℕ-discrete j i) };
         count = λ a k. count-more a k (ℕ-discrete a b);
-        sum = omega (arith, d .sum, sum-more counts b (getD counts b 0) (omega (arith, d .all-counts)) refl);
       }
 
 -- ---- the records of one satellite

@@ -6,7 +6,7 @@ use native.Mathlib.Omega.{arith}
 use lib.ListN.{length, drop, getD, drop-of-length-le}
 use lib.IntN.{ℤ, pos}
 use lib.Seq.{drop-cons}
-use Rattle.messages.specs.Records.{Rec1059, rec1059, records1059, Rec1230, rec1230, signalOf1230, biasOf1230, records1230}
+use Rattle.messages.specs.Records.{Rec1059, rec1059, satelliteOf, signalOf1059, biasOf1059, records1059, Rec1230, rec1230, signalOf1230, biasOf1230, records1230}
 
 -- the records from place i on
 abbrev pub from1059 : List ℕ → List ℕ → List ℤ → ℕ → List Rec1059
@@ -24,6 +24,12 @@ pub end1059 : (sats gs : List ℕ) (zs : List ℤ) (i : ℕ) → length sats ≤
 unfolding records1059
 end1059 sats gs zs i h = ap (λ (x : List ℕ). records1059 x (drop i gs) (drop i zs)) (drop-of-length-le sats h)
 
+-- the records of the parts of records are they themselves
+pub columns1059 : (rs : List Rec1059) → records1059 (map satelliteOf rs) (map signalOf1059 rs) (map biasOf1059 rs) ≡ rs
+unfolding records1059
+columns1059 [] = refl
+columns1059 (rec1059 a g z ∷ rs) = ap (λ (l : List Rec1059). rec1059 a g z ∷ l) (columns1059 rs)
+
 abbrev pub from1230 : List ℕ → List ℤ → ℕ → List Rec1230
 from1230 gs zs i = records1230 (drop i gs) (drop i zs)
 
@@ -36,7 +42,7 @@ pub end1230 : (gs : List ℕ) (zs : List ℤ) (i : ℕ) → length gs ≤ i → 
 unfolding records1230
 end1230 gs zs i h = ap (λ (x : List ℕ). records1230 x (drop i zs)) (drop-of-length-le gs h)
 
--- the parts of records are the lists, and the records of their parts they themselves
+-- the parts of records are the lists, and the records of the parts they themselves
 pub parts1230 : (gs : List ℕ) (zs : List ℤ) → length gs ≡ length zs → (map signalOf1230 (records1230 gs zs) ≡ gs) × (map biasOf1230 (records1230 gs zs) ≡ zs)
 unfolding records1230
 parts1230 [] [] l = (refl, refl)

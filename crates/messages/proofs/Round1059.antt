@@ -1,6 +1,6 @@
 -- The bias block of message 1059, from its format: what a call wrote is read, satellites ascending and those of one in list order; and what stands in the data is written to the same bits, into any data from any bit on. Assumes nothing.
-use mathlib.Core.Path.{_≡_, refl, sym, ap, _∙_}
-use mathlib.Core.List.{List, [], _∷_, map}
+use mathlib.Core.Path.{_≡_, sym, ap, _∙_}
+use mathlib.Core.List.{List, map}
 use Prim.Native.Nat.{ℕ, _+_, _-_, _*_, _≤_}
 use native.Mathlib.Omega.{arith}
 use lib.ListN.{length, length-map}
@@ -11,13 +11,14 @@ use Rattle.bits.specs.Field.{reading}
 use Rattle.bits.specs.Fields.{total, putAll}
 use Rattle.formats.specs.WrittenBack.{WrittenBack}
 use Rattle.formats.proofs.UseLaws.{call-reads-back, call-writes-back}
-use Rattle.messages.specs.Records.{Rec1059, rec1059, satelliteOf, signalOf1059, biasOf1059, records1059}
+use Rattle.messages.specs.Records.{Rec1059, satelliteOf, signalOf1059, biasOf1059, records1059}
 use Rattle.messages.specs.Layout1059.{block1059, Sat, flat1059, grouped1059}
 use Rattle.messages.specs.Read1059.{readBlock1059}
 use Rattle.messages.specs.Write1059.{fields1059, write1059}
 use Rattle.messages.specs.Satellites1059.{satellites1059, Regular}
 use Rattle.messages.specs.InOrder.{inOrder1059}
 use Rattle.messages.proofs.Accepts1059.{Fine, edition-known, call-written, call-accepted}
+use Rattle.messages.proofs.RecordLaws.{columns1059}
 use Rattle.messages.proofs.Layout1059Laws.{block-good, same-count}
 use Rattle.messages.proofs.Grouped1059Laws.{grouped-again, flat-grouped}
 use Rattle.messages.proofs.Fits1059Laws.{block-tells, grouped-fits, all-writable, thin-of}
@@ -30,12 +31,6 @@ block-again-1059 e s p sats gs zs h =
     let w = call-accepted e s p sats gs zs h in
     let rs = records1059 sats gs zs in
     call-reads-back block1059 (block-good .faithful) s p flat1059 (w .few) (grouped-fits e rs (w .records)) (w .within) (call-written e s p sats gs zs w) h (flat-grouped rs)
-
--- the columns of records are records again
-columns1059 : (rs : List Rec1059) → records1059 (map satelliteOf rs) (map signalOf1059 rs) (map biasOf1059 rs) ≡ rs
-unfolding records1059
-columns1059 [] = refl
-columns1059 (rec1059 a g z ∷ rs) = ap (λ (l : List Rec1059). rec1059 a g z ∷ l) (columns1059 rs)
 
 -- a block that stands in s is written into any data that has room for it
 pub block-back-1059 : (e : ℕ) (s : List ℕ) (p : ℕ) {q : ℕ} (xs : List Sat) → satellites1059 s p ≡ Accepted (reading xs q) → Regular e xs

@@ -1,15 +1,15 @@
 -- The bias block of message 1230, from its format: what a call wrote is read, in the order of the mask; and what stands in the data is written to the same bits, into any data from any bit on. Assumes nothing.
 use mathlib.Core.Path.{_≡_, refl, sym, ap, ap₂, _∙_}
-use mathlib.Core.Bool.{Bool, true, false, cond, true≢false, _&&_}
+use mathlib.Core.Bool.{Bool, true, false, cond, _&&_}
 use mathlib.Core.List.{List, [], _∷_, _++_, map}
 use Prim.Native.Nat.{ℕ, _+_, _-_, _*_, _/_, _%_, _^_, _≤_, _<_}
 use native.Mathlib.Nat.{div-one}
 use native.Mathlib.Omega.{arith}
-use borrow.Author.Tests.{lt-ltb, eq-eqb, ne-eqb, eqb-false}
+use borrow.Author.Tests.{lt-ltb, eq-eqb, ne-eqb}
 use lib.ListN.{length, length-map}
 use lib.IntN.{ℤ}
 use lib.Dec.{T, eqb, eqb→eq}
-use Rattle.bits.specs.Told.{Told, Accepted, Refused}
+use Rattle.bits.specs.Told.{Told, Accepted, Refused, andThen}
 use Rattle.bits.specs.Field.{reading}
 use Rattle.bits.specs.Signed.{fitsUnsigned}
 use Rattle.formats.specs.Format.{twos, fitEach}
@@ -26,7 +26,7 @@ use Rattle.messages.specs.Writer.{fine, firstFault, firstRepeat, isAmong
 use Rattle.messages.specs.Write1230.{isIn, fault1230, fields1230, write1230}
 use Rattle.messages.specs.InOrder.{inOrder1230}
 use Rattle.messages.proofs.TestLaws.{left, right, below, below-place}
-use Rattle.messages.proofs.AcceptLaws.{read-as}
+use Rattle.messages.proofs.AcceptLaws.{then-accepted, read-as}
 use Rattle.messages.proofs.I16Laws.{all-fit}
 use Rattle.messages.proofs.RecordLaws.{parts1230, columns1230}
 use Rattle.messages.proofs.Layout1230Laws.{block-good}
@@ -120,49 +120,42 @@ block-again-1230 s p gs zs raw h =
 
 -- ---- grouping the records of a block gives the block
 
--- g is neither the first nor a later one
-outside : (b c : Bool) → cond b true c ≡ false → (b ≡ false) × (c ≡ false)
-outside true c e = absurd (true≢false e)
-outside false c e = (refl, e)
+-- the signals ascend, the first being at least a
+abbrev Up : ℕ → List ℕ → Type 0
+Up a [] = Unit
+Up a (g ∷ gs) = (a ≤ g) × Up (g + 1) gs
 
--- a signal that is not in the list has no bias
-none-of : (g : ℕ) (gs : List ℕ) → isIn g gs ≡ false → (m : ℕ) (zs : List ℤ) → ofSignal g (records1230 (masked gs m) zs) ≡ []
-unfolding ofSignal records1230 isAmong masked
-none-of g [] n m zs = refl
-none-of g (h ∷ gs) n m zs = let o = outside (eqb h g) (isIn g gs) n in go (eqb (m / 2 ^ length gs % 2) 1) zs (o .0) (none-of g gs (o .1) m)
+-- a signal before them has no bias
+none-of : (c a : ℕ) (gs : List ℕ) → c < a → Up a gs → (m : ℕ) (zs : List ℤ) → ofSignal c (records1230 (masked gs m) zs) ≡ []
+unfolding ofSignal records1230 masked
+none-of c a [] l up m zs = refl
+none-of c a (g ∷ gs) l up m zs = go (eqb (m / 2 ^ length gs % 2) 1) zs (none-of c (g + 1) gs (omega (arith, up .0)) (up .1) m)
   where
-    go : (b : Bool) (ys : List ℤ) → eqb h g ≡ false → ((ys : List ℤ) → ofSignal g (records1230 (masked gs m) ys) ≡ []) → ofSignal g (records1230 (keep b h (masked gs m)) ys) ≡ []
-    go true [] d ih = refl
-    go true (y ∷ ys) d ih = rw d (ih ys)
-    go false ys d ih = ih ys
+    go : (b : Bool) (ys : List ℤ) → ((ys : List ℤ) → ofSignal c (records1230 (masked gs m) ys) ≡ []) → ofSignal c (records1230 (keep b g (masked gs m)) ys) ≡ []
+    go true [] ih = refl
+    go true (y ∷ ys) ih = rw (ne-eqb g c (λ e. omega (arith, up .0))) (ih ys)
+    go false ys ih = ih ys
 
 -- and a record of it changes nothing
-skipped : (g : ℕ) (z : ℤ) (rs : List Rec1230) (gs : List ℕ) → isIn g gs ≡ false → gather (λ h. ofSignal h (rec1230 g z ∷ rs)) gs ≡ gather (λ h. ofSignal h rs) gs
-unfolding gather ofSignal isAmong
-skipped g z rs [] n = refl
-skipped g z rs (h ∷ gs) n =
-    let o = outside (eqb h g) (isIn g gs) n in
-    ap₂ (λ (b : Bool) (l : List ℤ). keep b z (ofSignal h rs) ++ l) (ne-eqb g h (λ e. eqb-false h g (o .0) (sym e))) (skipped g z rs gs (o .1))
+past : (c : ℕ) (z : ℤ) (rs : List Rec1230) (a : ℕ) (gs : List ℕ) → c < a → Up a gs → gather (λ g. ofSignal g (rec1230 c z ∷ rs)) gs ≡ gather (λ g. ofSignal g rs) gs
+unfolding gather ofSignal
+past c z rs a [] l up = refl
+past c z rs a (g ∷ gs) l up = rw (ne-eqb c g (λ e. omega (arith, up .0))) (ap (λ (l : List ℤ). ofSignal g rs ++ l) (past c z rs (g + 1) gs (omega (arith, up .0)) (up .1)))
 
--- no signal stands twice
-abbrev Apart : List ℕ → Type 0
-Apart [] = Unit
-Apart (g ∷ gs) = (isIn g gs ≡ false) × Apart gs
-
-biases-again : (gs : List ℕ) → Apart gs → (m : ℕ) (zs : List ℤ) → length zs ≡ length (masked gs m) → gather (λ g. ofSignal g (records1230 (masked gs m) zs)) gs ≡ zs
+biases-again : (a : ℕ) (gs : List ℕ) → Up a gs → (m : ℕ) (zs : List ℤ) → length zs ≡ length (masked gs m) → gather (λ g. ofSignal g (records1230 (masked gs m) zs)) gs ≡ zs
 unfolding gather masked records1230 ofSignal
-biases-again [] a m [] l = refl
-biases-again [] a m (z ∷ zs) l = absurd (omega arith)
-biases-again (g ∷ gs) a m zs l = go (eqb (m / 2 ^ length gs % 2) 1) zs l (biases-again gs (a .1) m)
+biases-again a [] up m [] l = refl
+biases-again a [] up m (z ∷ zs) l = absurd (omega arith)
+biases-again a (g ∷ gs) up m zs l = go (eqb (m / 2 ^ length gs % 2) 1) zs l (biases-again (g + 1) gs (up .1) m)
   where
     go : (b : Bool) (ys : List ℤ) → length ys ≡ length (keep b g (masked gs m))
         → ((xs : List ℤ) → length xs ≡ length (masked gs m) → gather (λ h. ofSignal h (records1230 (masked gs m) xs)) gs ≡ xs)
         → ofSignal g (records1230 (keep b g (masked gs m)) ys) ++ gather (λ h. ofSignal h (records1230 (keep b g (masked gs m)) ys)) gs ≡ ys
     go true [] l ih = absurd (omega arith)
     go true (y ∷ ys) l ih =
-        let rs = records1230 (masked gs m) ys in
-        rw (eq-eqb g g refl) (ap₂ (λ (u v : List ℤ). y ∷ u ++ v) (none-of g gs (a .0) m ys) (skipped g y rs gs (a .0) ∙ ih ys (omega arith)))
-    go false ys l ih = ap (λ (u : List ℤ). u ++ gather (λ h. ofSignal h (records1230 (masked gs m) ys)) gs) (none-of g gs (a .0) m ys) ∙ ih ys l
+        rw (eq-eqb g g refl)
+        (ap₂ (λ (u v : List ℤ). y ∷ u ++ v) (none-of g (g + 1) gs (omega arith) (up .1) m ys) (past g y (records1230 (masked gs m) ys) (g + 1) gs (omega arith) (up .1) ∙ ih ys (omega arith)))
+    go false ys l ih = ap (λ (u : List ℤ). u ++ gather (λ h. ofSignal h (records1230 (masked gs m) ys)) gs) (none-of g (g + 1) gs (omega arith) (up .1) m ys) ∙ ih ys l
 
 -- ---- what is read is written back
 
@@ -176,24 +169,24 @@ unfolding accepted
 is-fine (Accepted u) h = refl
 is-fine (Refused n carried) h = absurd h
 
+refused : ℕ → Told Unit
+refused m = andThen (firstFault fault1230 0 (masked maskSignals m)) (λ u. firstRepeat eqb 0 [] (masked maskSignals m))
+
 good : ℕ → Bool
-good m = accepted (firstFault fault1230 0 (masked maskSignals m)) && (accepted (firstRepeat eqb 0 [] (masked maskSignals m)) && eqb (maskOf maskSignals (masked maskSignals m)) m)
+good m = accepted (refused m) && eqb (maskOf maskSignals (masked maskSignals m)) m
 
 all-good : T (below good 16)
-unfolding good accepted masked maskOf firstFault fault1230 firstRepeat isAmong
+unfolding good refused accepted masked maskOf firstFault fault1230 firstRepeat isAmong
 all-good = tt
 
-mask-good : (m : ℕ) → m < 16 → (firstFault fault1230 0 (masked maskSignals m) ≡ fine) × (firstRepeat eqb 0 [] (masked maskSignals m) ≡ fine) × (maskOf maskSignals (masked maskSignals m) ≡ m)
+mask-good : (m : ℕ) → m < 16 → (refused m ≡ fine) × (maskOf maskSignals (masked maskSignals m) ≡ m)
 unfolding good
-mask-good m l =
-    let t = below-place good 16 all-good m l in
-    let u = right (accepted (firstFault fault1230 0 (masked maskSignals m))) _ t in
-    (is-fine _ (left (accepted (firstFault fault1230 0 (masked maskSignals m))) _ t), is-fine _ (left (accepted (firstRepeat eqb 0 [] (masked maskSignals m))) _ u), eqb→eq _ m (right (accepted (firstRepeat eqb 0 [] (masked maskSignals m))) _ u))
+mask-good m l = let t = below-place good 16 all-good m l in (is-fine (refused m) (left (accepted (refused m)) _ t), eqb→eq _ m (right (accepted (refused m)) _ t))
 
 -- a block that stands in s is written into any data that has room for it
 pub block-back-1230 : (s : List ℕ) (p : ℕ) {q : ℕ} (rs : List Rec1230) → readBlock1230 s p ≡ Accepted (reading rs q) → (t : List ℕ) (r : ℕ) → length t ≤ 1023
     → r + (q - p) ≤ length t * 8 → WrittenBack s p q r (write1230 t r (map signalOf1230 rs) (map biasOf1230 rs))
-unfolding readBlock1230 fields1230 isAmong
+unfolding readBlock1230 fields1230 refused
 block-back-1230 s p {q} rs h t r few room =
     let a = read-as flat1230 (block1230 .reads s p) h in
     let m = a .0 .0 in
@@ -201,9 +194,10 @@ block-back-1230 s p {q} rs h t r few room =
     let gs = masked maskSignals m in
     let b = block1230-tells m zs (block-good .faithful .there s p (reading (m, zs) q) (a .1) .fitting) in
     let ok = mask-good m (b .small) in
+    let f = then-accepted (firstFault fault1230 0 gs) _ (ok .0) in
     let parts = parts1230 gs zs (sym (b .count)) in
     let same : grouped1230 (records1230 gs zs) ≡ (m, zs) =
-    ap₂ (λ (k : ℕ) (l : List ℤ). (k, l)) (ap (maskOf maskSignals) (parts .0) ∙ ok .2) (biases-again maskSignals (refl, (refl, (refl, (refl, tt)))) m zs (b .count)) in
+    ap₂ (λ (k : ℕ) (l : List ℤ). (k, l)) (ap (maskOf maskSignals) (parts .0) ∙ ok .1) (biases-again 0 maskSignals (omega arith, (omega arith, (omega arith, (omega arith, tt)))) m zs (b .count)) in
     rw (sym (a .2), parts .0, parts .1)
     (call-writes-back block1230 (block-good .faithful) s p (a .1) same t r room (λ within.
-    call-written t r gs zs (record { few = few; biases = sym (b .count); most = omega (arith, b .count, b .few); clean = ok .0; single = ok .1; within = within })))
+    call-written t r gs zs (record { few = few; biases = sym (b .count); most = omega (arith, b .count, b .few); clean = f .1; single = f .2; within = within })))

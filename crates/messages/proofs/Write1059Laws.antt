@@ -22,6 +22,7 @@ use Rattle.formats.proofs.PutLaws.{Left, left-all, left-as, left-fits, left-put
 use Rattle.messages.proofs.WriterLaws.{run-refused, run-put, run-room}
 use Rattle.messages.proofs.LinkLaws.{count-records}
 use Rattle.messages.proofs.Layout1059Laws.{fields-laid}
+use Rattle.messages.proofs.InOrderLaws.{low-records, length-records}
 use Rattle.messages.proofs.CrowdLaws.{counts-fit, crowded-is, present-is, bits-is}
 
 -- ---- records without a fault
@@ -84,7 +85,7 @@ module _ (s : List ℕ) (p : ℕ) (sats gs : List ℕ) (zs : List ℤ) (d : Faul
 
           module _ (v : length sats ≤ j) where
             block : total (fields1059 (records1059 sats gs zs)) ≡ 6 + m * 11 + length sats * 19
-            block = omega (arith, bits-is (records1059 sats gs zs) cs (l .all-counts) counts, l .sum, em)
+            block = omega (arith, bits-is (records1059 sats gs zs) (low-records sats gs zs (d .low)), seen, length-records sats gs zs (d .signals) (d .biases))
 
             clear : refusedFaultless (records1059 sats gs zs) ≡ fine
             clear =

@@ -77,16 +77,11 @@ unfoldable pub countOf : ℕ → List ℕ → ℕ
 countOf a [] = 0
 countOf a (b ∷ bs) = cond (eqb b a) 1 0 + countOf a bs
 
--- the sum of the numbers
-unfoldable pub sumOf : List ℕ → ℕ
-sumOf [] = 0
-sumOf (c ∷ cs) = c + sumOf cs
-
 -- from place i on each place has a link to the next of its satellite
 pub record Links (sats links : List ℕ) (i : ℕ) : Type 0 where
   pub link : (j : ℕ) → i ≤ j → j < length sats → getD links j 0 ≡ nextOf sats (getD sats j 0) (suc j)
 
--- the places from i on are linked: the first place of each satellite, how often it stands there, and all of them
+-- the places from i on are linked: the first place of each satellite, and how often it stands there
 pub record Linked (sats heads links counts : List ℕ) (i : ℕ) : Type 0 where
   pub all-heads : length heads ≡ 64
   pub all-links : length links ≡ 1953
@@ -94,7 +89,6 @@ pub record Linked (sats heads links counts : List ℕ) (i : ℕ) : Type 0 where
   pub head : (a : ℕ) → a < 64 → getD heads a 0 ≡ nextOf sats a i
   pub chain : Links sats links i
   pub count : (a : ℕ) → a < 64 → getD counts a 0 ≡ countOf a (drop i sats)
-  pub sum : sumOf counts + i ≡ length sats
 
 -- ---- the tests on the counts
 
