@@ -1,28 +1,22 @@
 -- The closing call in numbers: what it returns in each case, that its statement allows one answer, and that a refusal writes nothing but the extra area. Assumes nothing.
-use mathlib.Core.Path.{_≡_, ap, _∙_}
-use mathlib.Core.List.{List, [], _∷_}
+use mathlib.Core.Path.{_≡_, _∙_}
+use mathlib.Core.List.{List}
 use Prim.Native.Nat.{ℕ}
 use lib.ListN.{length}
 use lib.Dec.{eqb}
 use borrow.Author.Tests.{eq-eqb, ne-eqb}
-use Rattle.bits.specs.Told.{Told, Accepted}
+use Rattle.bits.specs.Told.{Told}
 use Rattle.bits.specs.Outcome.{Outcome, outcome}
 use Rattle.frames.specs.Rtcm.{Kind}
 use Rattle.frames.specs.Modes.{framingOf}
-use Rattle.frames.specs.Call.{Scanner}
-use Rattle.frames.specs.Close.{ClosedAnswer, Frame, closeOf}
+use Rattle.frames.specs.Close.{ClosedAnswer, closeOf}
 use Rattle.frames.proofs.EndLaws.{close-keeps}
 use Rattle.peerivolt.specs.Extra.{numbers, inNumbers, returned}
-use Rattle.peerivolt.specs.Scanner.{scannerOf, kindNumber}
+use Rattle.peerivolt.specs.Scanner.{scannerOf}
 use Rattle.peerivolt.specs.Closing.{closedValues, closes}
 use Rattle.peerivolt.proofs.AnswerLaws.{sized, not-sized, either}
 use Rattle.peerivolt.proofs.OnlyLaws.{OneAnswer, only-returned}
 use Rattle.peerivolt.proofs.KeepLaws.{RefusedKeeps, sized-keeps, answered-keeps}
-
--- a frame's kind in its number
-pub kind-closed : (l s i n : ℕ) (k : Kind) (x : Scanner) → n ≡ kindNumber k
-    → numbers 0 (1 ∷ 0 ∷ s ∷ x .count ∷ l ∷ i ∷ x .taken ∷ n ∷ []) ≡ inNumbers closedValues (Accepted (Frame l s i k x))
-kind-closed l s i n k x e = ap (λ n. numbers 0 (1 ∷ 0 ∷ s ∷ x .count ∷ l ∷ i ∷ x .taken ∷ n ∷ [])) e
 
 module _ (a o : List ℕ) (w : Outcome (ClosedAnswer Kind) (List ℕ × List ℕ)) (e : List ℕ) where
   pub not-closed : (length e ≡ 8 → ⊥) → returned 9 e (a, o) ≡ closes a o w e

@@ -42,38 +42,14 @@ fn closed(answer: Closed) -> Reply
     ensures { λ r. ⌜ replied r ≡ inNumbers closedValues (toldClosed answer) ⌝ }
 {
     match answer {
-        Closed::Done { skipped, scanner } => Reply {
-            number: 0,
-            extra: [
-                0,
-                0,
-                skipped as u64,
-                scanner.count as u64,
-                0,
-                0,
-                scanner.taken,
-                0,
-            ],
-        },
+        Closed::Done { skipped, scanner } => scanner::no_frame(0, skipped, scanner),
         Closed::Frame {
             length,
             skipped,
             place,
             kind,
             scanner,
-        } => Reply {
-            number: 0,
-            extra: [
-                1,
-                0,
-                skipped as u64,
-                scanner.count as u64,
-                length as u64,
-                place,
-                scanner.taken,
-                scanner::kind_number(kind),
-            ],
-        },
+        } => scanner::a_frame(length, 0, skipped, place, kind, scanner),
         Closed::Size => extra::bare(9),
         Closed::State => extra::bare(11),
         Closed::Room(n) => extra::with_one(8, n as u64),

@@ -1,8 +1,9 @@
 // The scanner.
 ghost use mathlib.Core.Path.{_≡_};
+ghost use Rattle.bits.specs.Told.{Accepted};
 ghost use Rattle.frames.specs.Modes.{framingOf};
-ghost use Rattle.frames.specs.Call.{feedOf};
-ghost use Rattle.frames.specs.Answers.{toldKind, toldFed};
+ghost use Rattle.frames.specs.Call.{More, Frame, feedOf};
+ghost use Rattle.frames.specs.Answers.{known, toldKind, toldFed};
 ghost use Rattle.peerivolt.specs.Extra.{returned, inNumbers};
 ghost use Rattle.peerivolt.specs.Answers.{replied};
 ghost use Rattle.peerivolt.specs.Scanner.{scannerOf, kindNumber, fedValues, feeds};
@@ -46,19 +47,7 @@ fn fed(answer: Fed) -> Reply
             taken,
             skipped,
             scanner,
-        } => Reply {
-            number: 0,
-            extra: [
-                0,
-                taken as u64,
-                skipped as u64,
-                scanner.count as u64,
-                0,
-                0,
-                scanner.taken,
-                0,
-            ],
-        },
+        } => no_frame(taken, skipped, scanner),
         Fed::Frame {
             length,
             taken,
@@ -66,26 +55,59 @@ fn fed(answer: Fed) -> Reply
             place,
             kind,
             scanner,
-        } => Reply {
-            number: 0,
-            extra: [
-                1,
-                taken as u64,
-                skipped as u64,
-                scanner.count as u64,
-                length as u64,
-                place,
-                scanner.taken,
-                kind_number(kind),
-            ],
-        },
+        } => a_frame(length, taken, skipped, place, kind, scanner),
         Fed::Size => extra::bare(9),
         Fed::State => extra::bare(11),
         Fed::Room(n) => extra::with_one(8, n as u64),
     }
 }
 
-pub(crate) fn kind_number(kind: Kind) -> u64
+// No frame, after so many bytes taken and skipped.
+pub(crate) fn no_frame(taken: usize, skipped: usize, scanner: Scanner) -> Reply
+    ensures { λ r. ⌜ replied r ≡ inNumbers fedValues (Accepted (More taken skipped (known scanner))) ⌝ }
+{
+    Reply {
+        number: 0,
+        extra: [
+            0,
+            taken as u64,
+            skipped as u64,
+            scanner.count as u64,
+            0,
+            0,
+            scanner.taken,
+            0,
+        ],
+    }
+}
+
+// A frame of so many bytes at a place, after so many bytes taken and skipped.
+pub(crate) fn a_frame(
+    length: usize,
+    taken: usize,
+    skipped: usize,
+    place: u64,
+    kind: Kind,
+    scanner: Scanner,
+) -> Reply
+    ensures { λ r. ⌜ replied r ≡ inNumbers fedValues (Accepted (Frame length taken skipped place (toldKind kind) (known scanner))) ⌝ }
+{
+    Reply {
+        number: 0,
+        extra: [
+            1,
+            taken as u64,
+            skipped as u64,
+            scanner.count as u64,
+            length as u64,
+            place,
+            scanner.taken,
+            kind_number(kind),
+        ],
+    }
+}
+
+fn kind_number(kind: Kind) -> u64
     ensures { λ r. ⌜ r ≡ kindNumber (toldKind kind) ⌝ }
 {
     match kind {

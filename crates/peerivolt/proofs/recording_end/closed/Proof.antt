@@ -1,21 +1,17 @@
 -- Each arm tells what its answer tells. Assumes nothing.
 use mathlib.Core.Path.{_∙_}
 use borrow.Author.Needs.{needs}
-use Rattle.frames.specs.Answers.{known, toldKind, toldClosed}
+use Rattle.frames.specs.Answers.{toldClosed}
 use Rattle.peerivolt.specs.Closing.{closedValues}
 use Rattle.peerivolt.proofs.AnswerLaws.{tells}
-use Rattle.peerivolt.proofs.ClosingLaws.{kind-closed}
 use Rattle.peerivolt.proofs.recording_end.closed.Statement.{statement}
 use Rattle.peerivolt.proofs.recording_end.closed.Tie as tie
 
 returns : tie.Need-returns
-returns c = tells closedValues toldClosed (c .before .answer .given .1)
+returns c = c .no-frame .ensures ∙ tells closedValues toldClosed (c .before .before .answer .given .1)
 
 returns-2 : tie.Need-returns-2
-returns-2 c =
-    let v = c .before .before .answer2 .given in
-    kind-closed (v .0 .0) (v .0 .1 .0) (v .0 .1 .1 .0) _ (toldKind (v .0 .1 .1 .1 .0)) (known (v .0 .1 .1 .1 .1 .0)) (c .kind-number .ensures)
-    ∙ tells closedValues toldClosed (v .1)
+returns-2 c = c .a-frame .ensures ∙ tells closedValues toldClosed (c .before .before .answer2 .given .1)
 
 returns-3 : tie.Need-returns-3
 returns-3 c = c .bare .ensures ∙ tells closedValues toldClosed (c .before .enum-told .given .1)
@@ -31,6 +27,7 @@ closed-spec =
     tie.close
     (tie.spec
     (λ c. search needs)
+    (λ c κs. search needs)
     (λ c. search needs)
     (λ c κs. search needs)
     (λ c. search needs)

@@ -1,20 +1,17 @@
 -- Each arm tells what its answer tells. Assumes nothing.
 use mathlib.Core.Path.{_∙_}
 use borrow.Author.Needs.{needs}
-use Rattle.frames.specs.Answers.{known, toldKind, toldFed}
+use Rattle.frames.specs.Answers.{toldFed}
 use Rattle.peerivolt.specs.Scanner.{fedValues}
-use Rattle.peerivolt.proofs.AnswerLaws.{tells, kind-told}
+use Rattle.peerivolt.proofs.AnswerLaws.{tells}
 use Rattle.peerivolt.proofs.scanner.fed.Statement.{statement}
 use Rattle.peerivolt.proofs.scanner.fed.Tie as tie
 
 returns : tie.Need-returns
-returns c = tells fedValues toldFed (c .before .answer .given .1)
+returns c = c .no-frame .ensures ∙ tells fedValues toldFed (c .before .before .answer .given .1)
 
 returns-2 : tie.Need-returns-2
-returns-2 c =
-    let v = c .before .before .answer2 .given in
-    kind-told (v .0 .0) (v .0 .1 .0) (v .0 .1 .1 .0) (v .0 .1 .1 .1 .0) _ (toldKind (v .0 .1 .1 .1 .1 .0)) (known (v .0 .1 .1 .1 .1 .1 .0)) (c .kind-number .ensures)
-    ∙ tells fedValues toldFed (v .1)
+returns-2 c = c .a-frame .ensures ∙ tells fedValues toldFed (c .before .before .answer2 .given .1)
 
 returns-3 : tie.Need-returns-3
 returns-3 c = c .bare .ensures ∙ tells fedValues toldFed (c .before .enum-told .given .1)
@@ -30,6 +27,7 @@ fed-spec =
     tie.close
     (tie.spec
     (λ c. search needs)
+    (λ c κs. search needs)
     (λ c. search needs)
     (λ c κs. search needs)
     (λ c. search needs)
