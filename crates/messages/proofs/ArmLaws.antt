@@ -18,7 +18,7 @@ use Rattle.bits.specs.declared.field.Signed.{Signed}
 use Rattle.bits.specs.declared.field.Signed.the-variants as S
 use Rattle.bits.proofs.field.Unsigned.{the-type as unsigned-type}
 use Rattle.bits.proofs.field.Signed.{the-type as signed-type}
-use Rattle.bits.proofs.ReadLaws.{reads-short, refused-short, refused-behind, read-tells, value-tells}
+use Rattle.bits.proofs.ReadLaws.{reads-value, reads-short, refused-short, refused-behind, read-tells, value-tells}
 use Rattle.messages.specs.Records.{Counted}
 use Rattle.messages.specs.Answers.{toldRead}
 use Rattle.messages.specs.declared.answer.BlockRead.{BlockRead}
@@ -80,6 +80,14 @@ module _ (s : List ℕ) (p w : ℕ) (few : length s ≤ 1023) (low : 1 ≤ w) (h
       → {answer : Told Counted} → ((carried : List ℕ) → toldSigned r ≡ Refused 1 carried → answer ≡ Refused 1 carried)
       → (readTwos s p w ≡ cutAt (length s) p w) × (answer ≡ cutAt (length s) p w)
   twos-cut r e o passed = let k = refused-cut (twosOf w) (signed-refused r o) e in (k, passed _ (e ∙ k))
+
+  -- a field that lies within the data is not refused
+  pub not-refused : p + w ≤ length s * 8 → (r : Unsigned) → toldUnsigned r ≡ readUnsigned s p w → OneOf (1 ∷ 2 ∷ 3 ∷ []) (tagOf unsigned-type r) → ⊥
+  not-refused h r e o =
+      let d = sym e ∙ unsigned-refused r o .is in
+      let f = reads-value (λ v. v) s p w few low high h in
+      let z : _≡_ {A = ℕ} 0 1 = cc in
+      omega arith
 
   -- a signed field that ends behind the data is cut short
   pub twos-behind : length s * 8 < p + w → (r : Signed) → toldSigned r ≡ readTwos s p w

@@ -6,16 +6,17 @@ use Prim.Native.Nat.{ℕ, _-_, _^_, _≤_, _<_}
 use native.Mathlib.Omega.{arith}
 use native.Mathlib.Nat.{not-suc-le-zero}
 use borrow.Author.Tests.{ltb-true, lt-ltb}
-use lib.IntN.{ℤ, pos, negsuc}
+use lib.IntN.{ℤ, pos, negsuc, _-ℤ_}
 use lib.Pow.{pow-mono}
 use lib.Signed.{mag, ltZ}
 use mir.Syntax.{w16, w64}
 use mir.Val.{SFits, toZ, ofZ}
-use mir.ValLaws.{toZ-ofZ}
+use mir.ValLaws.{toZ-pos, toZ-ofZ}
 use Rattle.bits.specs.Told.{Accepted}
 use Rattle.bits.specs.Field.{Reading, reading, readTwos, field}
 use Rattle.bits.specs.Signed.{twosOf, fitsTwos}
 use Rattle.bits.proofs.FieldLaws.{field-lt}
+use Rattle.bits.proofs.SignedCode.{minus-one}
 use Rattle.bits.proofs.SignedLaws.{fits-twos, twos-fits}
 use Rattle.bits.proofs.ReadLaws.{read-tells}
 
@@ -39,7 +40,13 @@ bias-narrow s p w h {z} e =
 pub same-16 : (z : ℤ) → mag z < 2 ^ 15 → toZ w16 (ofZ w16 z) ≡ z
 same-16 z h = toZ-ofZ w16 z (record { sfits = h })
 
--- and fits 16 bits
+-- and so is a number of 14 bits
+pub same-14 : (v : ℕ) → v < 2 ^ 14 → {z : ℤ} → z ≡ twosOf 14 v → toZ w16 (ofZ w16 z) ≡ twosOf 14 v
+same-14 v h {z} e =
+    let f = sym (fits-twos 14 z) ∙ ap (fitsTwos 14) e ∙ twos-fits 14 (omega arith) v h in
+    same-16 z (omega (arith, ltb-true (mag z) (2 ^ 13) f)) ∙ e
+
+-- a number out of a list fits 16 bits
 pub all-fit : (z : ℤ) → mag z < 2 ^ 15 → fitsTwos 16 z ≡ true
 all-fit (pos n) h = lt-ltb n (2 ^ 15) h
 all-fit (negsuc n) h = lt-ltb n (2 ^ 15) h
@@ -58,3 +65,9 @@ fits-below (negsuc n) f e = rw (toZ-ofZ w16 (negsuc n) f)
 pub fits-else : (z : ℤ) → SFits w16 z → ltZ (toZ w16 (ofZ w16 z)) (pos 0) ≡ false → ltZ (toZ w16 (ofZ w16 z)) (pos 8192) ≡ fitsTwos 14 z
 fits-else (pos n) f e = rw (toZ-ofZ w16 (pos n) f)
 fits-else (negsuc n) f e = absurd (true≢false (rw (toZ-ofZ w16 (negsuc n) f) at e))
+
+-- `-1 - (n as i16)` fits, and is what it says
+pub minus-one-16 : (n : ℕ) → n < 2 ^ 15 → (SFits w16 (negsuc 0 -ℤ toZ w16 n)) × (toZ w16 (ofZ w16 (negsuc 0 -ℤ toZ w16 n)) ≡ negsuc n)
+minus-one-16 n h =
+    let f : SFits w16 (negsuc n) = record { sfits = h } in
+    rw (toZ-pos w16 n h, minus-one n) (f, toZ-ofZ w16 (negsuc n) f)

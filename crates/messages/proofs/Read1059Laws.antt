@@ -1,19 +1,21 @@
 -- Reading the bias block of message 1059, as the code does: one bias, one satellite, and which case of `read1059` holds. Assumes nothing.
-use mathlib.Core.Path.{_≡_, refl, sym, ap, _∙_}
+use mathlib.Core.Path.{_≡_, refl, sym, ap, ap₂, _∙_}
 use mathlib.Core.List.{List, [], _∷_}
 use mathlib.Core.Bool.{cond}
-use Prim.Native.Nat.{ℕ, _≤_, _<_, _+_, _*_}
+use Prim.Native.Nat.{ℕ, _≤_, _<_, _+_, _*_, _/_, _%_, _^_}
 use native.Mathlib.Decide.{decLt}
 use native.Mathlib.Omega.{arith}
 use borrow.Author.Tests.{lt-ltb, le-ltb, eq-eqb, ne-eqb}
 use lib.IntN.{ℤ}
 use lib.ListN.{length, set}
 use lib.Dec.{ltb}
+use lib.Pow.{high, low}
 use Rattle.bits.specs.Told.{Told, Accepted, size, Refused}
 use Rattle.bits.specs.Field.{Reading, reading, missing, cutAt, readUnsigned, field, readTwos}
 use Rattle.bits.specs.Outcome.{Outcome, outcome, refusing}
 use Rattle.bits.specs.Signed.{twosOf}
-use Rattle.bits.proofs.ReadLaws.{reads-value, reads-short}
+use Rattle.bits.proofs.FieldLaws.{field-split, field-lt}
+use Rattle.bits.proofs.ReadLaws.{reads-value, reads-short, read-tells}
 use Rattle.formats.specs.Format.{readEach}
 use Rattle.messages.specs.StepsRead.{many, Lists1059, lists1059, put1059, counts, Stored}
 use Rattle.messages.specs.Records.{Rec1059, Counted, counted, rec1059}
@@ -31,24 +33,17 @@ use Rattle.messages.proofs.RunLaws.{Single, Run, many-run, run-fits, ru
 -- ---- one bias
 
 module _ (s : List ℕ) (a p : ℕ) where
-  pub bias-cut : {carried : List ℕ} → readUnsigned s p 5 ≡ Refused 1 carried → biasAt s a p ≡ Refused 1 carried
+  bias-cut : {carried : List ℕ} → readUnsigned s p 5 ≡ Refused 1 carried → biasAt s a p ≡ Refused 1 carried
   unfolding biasAt
   bias-cut e = rw e
 
-  pub bias-cut-2 : {g q : ℕ} {carried : List ℕ} → readUnsigned s p 5 ≡ Accepted (reading g q) → readTwos s q 14 ≡ Refused 1 carried → biasAt s a p ≡ Refused 1 carried
+  bias-cut-2 : {g q : ℕ} {carried : List ℕ} → readUnsigned s p 5 ≡ Accepted (reading g q) → readTwos s q 14 ≡ Refused 1 carried → biasAt s a p ≡ Refused 1 carried
   unfolding biasAt
   bias-cut-2 e f = rw (e, f)
 
-  pub bias-read : {g q r : ℕ} {z : ℤ} → readUnsigned s p 5 ≡ Accepted (reading g q) → readTwos s q 14 ≡ Accepted (reading z r) → biasAt s a p ≡ Accepted (reading (rec1059 a g z ∷ []) r)
+  two-read : {g q r : ℕ} {z : ℤ} → readUnsigned s p 5 ≡ Accepted (reading g q) → readTwos s q 14 ≡ Accepted (reading z r) → biasAt s a p ≡ Accepted (reading (rec1059 a g z ∷ []) r)
   unfolding biasAt
-  bias-read e f = rw (e, f)
-
-  -- and its record is stored at place i
-  pub bias-stored : (i : ℕ) (sats gs : List ℕ) (zs : List ℤ) {g q r : ℕ} {z y : ℤ} → readUnsigned s p 5 ≡ Accepted (reading g q) → readTwos s q 14 ≡ Accepted (reading z r) → y ≡ z
-      → Stored put1059 i (biasAt s a p) (Accepted (counted (i + 1) r)) (lists1059 sats gs zs) (lists1059 (set sats i a) (set gs i g) (set zs i y))
-  unfolding put1059
-  bias-stored i sats gs zs {g} e f d =
-      stored-one put1059 (bias-read e f) (ap (λ (x : ℤ). lists1059 (set sats i a) (set gs i g) (set zs i x)) d)
+  two-read e f = rw (e, f)
 
 -- ---- the biases of a satellite: 19 bits each
 
@@ -69,26 +64,53 @@ unfolding cutBias
 cut-behind s p h = rw (le-ltb _ _ h)
 
 module _ (s : List ℕ) (few : length s ≤ 1023) (a : ℕ) where
+  bias-fits : (p : ℕ) → p + 19 ≤ length s * 8 → biasAt s a p ≡ Accepted (reading (rec1059 a (field s p 5) (twosOf 14 (field s (p + 5) 14)) ∷ []) (p + 19))
+  bias-fits p h =
+      let e : p + 5 + 14 ≡ p + 19 = omega arith in
+      two-read s a p (reads-value (λ v. v) s p 5 few (omega arith) (omega arith) (omega arith)) (reads-value (twosOf 14) s (p + 5) 14 few (omega arith) (omega arith) (omega arith))
+      ∙ ap (λ (q : ℕ). Accepted (reading (rec1059 a (field s p 5) (twosOf 14 (field s (p + 5) 14)) ∷ []) q)) e
+
   one-bias : Single 19 (length s * 8) (cutBias s) (biasAt s a)
   one-bias =
       record {
         record-of = λ p. rec1059 a (field s p 5) (twosOf 14 (field s (p + 5) 14));
-        fits = fits;
+        fits = bias-fits;
         cuts = λ p h. cuts p h (decLt (length s * 8) (p + 5));
       }
     where
-      fits : (p : ℕ) → p + 19 ≤ length s * 8 → biasAt s a p ≡ Accepted (reading (rec1059 a (field s p 5) (twosOf 14 (field s (p + 5) 14)) ∷ []) (p + 19))
-      fits p h =
-          let e : p + 5 + 14 ≡ p + 19 = omega arith in
-          bias-read s a p (reads-value (λ v. v) s p 5 few (omega arith) (omega arith) (omega arith)) (reads-value (twosOf 14) s (p + 5) 14 few (omega arith) (omega arith) (omega arith))
-          ∙ ap (λ (q : ℕ). Accepted (reading (rec1059 a (field s p 5) (twosOf 14 (field s (p + 5) 14)) ∷ []) q)) e
-
       cuts : (p : ℕ) → length s * 8 < p + 19 → Dec (length s * 8 < p + 5) → biasAt s a p ≡ Refused 1 (cutBias s p)
       cuts p h (yes l) =
           bias-cut s a p (reads-short (λ v. v) s p 5 few (omega arith) (omega arith) l) ∙ ap (λ (c : List ℕ). Refused 1 c) (sym (cut-signal s p l))
       cuts p h (no l) =
           bias-cut-2 s a p (reads-value (λ v. v) s p 5 few (omega arith) (omega arith) (omega arith)) (reads-short (twosOf 14) s (p + 5) 14 few (omega arith) (omega arith) (omega arith))
           ∙ ap (λ (c : List ℕ). Refused 1 c) (sym (cut-behind s p (omega arith)))
+
+  -- where a bias is accepted, its 19 bits are there
+  pub bias-within : (p : ℕ) {r : Reading (List Rec1059)} → biasAt s a p ≡ Accepted r → p + 19 ≤ length s * 8
+  bias-within p {r} e = go (decLt (length s * 8) (p + 19))
+    where
+      go : Dec (length s * 8 < p + 19) → p + 19 ≤ length s * 8
+      go (yes h) = let d = one-bias .cuts p h in let z : _≡_ {A = ℕ} 0 1 = cc in absurd (omega arith)
+      go (no h) = omega arith
+
+  -- a bias out of one look at its 19 bits: the signal above, the bias below
+  pub bias-read : (p : ℕ) {v q : ℕ} → readUnsigned s p 19 ≡ Accepted (reading v q) → biasAt s a p ≡ Accepted (reading (rec1059 a (v / 2 ^ 14) (twosOf 14 (v % 2 ^ 14)) ∷ []) q)
+  bias-read p {v} {q} e =
+      let t = read-tells (λ x. x) s p 19 e in
+      let d : v ≡ field s p 5 * 2 ^ 14 + field s (p + 5) 14 = ap (λ (r : Reading ℕ). r .value) (t .is) ∙ field-split s p 5 14 in
+      let n : q ≡ p + 19 = ap (λ (r : Reading ℕ). r .next) (t .is) in
+      let g : v / 2 ^ 14 ≡ field s p 5 = ap (λ (x : ℕ). x / 2 ^ 14) d ∙ high (field s p 5) 14 (field-lt s (p + 5) 14) in
+      let z : v % 2 ^ 14 ≡ field s (p + 5) 14 = ap (λ (x : ℕ). x % 2 ^ 14) d ∙ low (field s p 5) 14 (field-lt s (p + 5) 14) in
+      bias-fits p (t .within)
+      ∙ ap₂ (λ (x y : ℕ). Accepted (reading (rec1059 a x (twosOf 14 y) ∷ []) (p + 19))) (sym g) (sym z)
+      ∙ ap (λ (m : ℕ). Accepted (reading (rec1059 a (v / 2 ^ 14) (twosOf 14 (v % 2 ^ 14)) ∷ []) m)) (sym n)
+
+  -- and its record is stored at place i
+  pub bias-stored : (p i : ℕ) (sats gs : List ℕ) (zs : List ℤ) {v q g : ℕ} {z : ℤ} → readUnsigned s p 19 ≡ Accepted (reading v q) → g ≡ v / 2 ^ 14 → z ≡ twosOf 14 (v % 2 ^ 14)
+      → Stored put1059 i (biasAt s a p) (Accepted (counted (i + 1) q)) (lists1059 sats gs zs) (lists1059 (set sats i a) (set gs i g) (set zs i z))
+  unfolding put1059
+  bias-stored p i sats gs zs e f d =
+      stored-one put1059 (bias-read p e) (ap₂ (λ (y : ℕ) (x : ℤ). lists1059 (set sats i a) (set gs i y) (set zs i x)) f d)
 
   biases-run : (n : ℕ) → Run 19 (length s * 8) (cutBias s) n (many (biasAt s a) n)
   biases-run n = many-run 19 (length s * 8) (cutBias s) one-bias n

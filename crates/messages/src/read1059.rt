@@ -1,8 +1,9 @@
 // Reading the bias block of message 1059.
 ghost use mathlib.Core.Path.{_≡_};
-ghost use Prim.Native.Nat.{ℕ, _*_, _≤_};
+ghost use Prim.Native.Nat.{ℕ, _*_, _^_, _≤_, _<_};
 ghost use lib.ListN.{length};
 ghost use Rattle.bits.specs.Outcome.{outcome};
+ghost use Rattle.bits.specs.Signed.{twosOf};
 ghost use Rattle.messages.specs.StepsRead.{many, counts, Stored, lists1059, put1059, Ready1059};
 ghost use Rattle.messages.specs.StepsRead1059.{biasAt, satelliteAt};
 ghost use Rattle.messages.specs.Read1059.{read1059};
@@ -11,7 +12,6 @@ use crate::answer::BlockRead;
 use crate::answer::unread;
 use crate::answer::unread_signed;
 use bits::field;
-use bits::field::Signed;
 use bits::field::Unsigned;
 
 // Reads the block from bit `start` on. The first places of the lists take its records, once all of it is read and they have room.
@@ -200,7 +200,7 @@ fn store_biases(
     BlockRead::Records { count: i, end: at }
 }
 
-// One bias, record i.
+// One bias, record i: signal and bias by one look, since the first pass has found that both are there.
 fn store_bias(
     bytes: &[u8],
     start: usize,
@@ -213,18 +213,24 @@ fn store_bias(
     requires { ⌜ Ready1059 (now bytes) i (biasAt (now bytes) satellite start) (now satellites) (now signals) (now biases) ⌝ }
     ensures { λ r. ⌜ Stored put1059 i (biasAt (now (bytes .entry)) satellite start) (toldRead r) (lists1059 (now (satellites .entry)) (now (signals .entry)) (now (biases .entry))) (lists1059 (now (satellites .exit)) (now (signals .exit)) (now (biases .exit))) ⌝ }
 {
-    // DF380: the signal.
-    let read = field::read_unsigned(bytes, start, 5);
-    let Unsigned::Value(signal, at) = read else {
+    // DF380 and DF383: the signal, 5 bits, and the bias, 14 bits.
+    let read = field::read_unsigned(bytes, start, 19);
+    let Unsigned::Value(both, end) = read else {
         return unread(read);
     };
-    // DF383: the bias.
-    let read = field::read_twos(bytes, at, 14);
-    let Signed::Value(bias, end) = read else {
-        return unread_signed(read);
-    };
     satellites[i] = satellite;
-    signals[i] = signal as u8;
-    biases[i] = bias as i16;
+    signals[i] = (both >> 14) as u8;
+    biases[i] = bias_of(both % 16384);
     BlockRead::Records { count: i + 1, end }
+}
+
+// The bias that 14 bits in two's complement are.
+fn bias_of(number: u64) -> i16
+    requires { ⌜ number < 2 ^ 14 ⌝ }
+    ensures { λ r. ⌜ r ≡ twosOf 14 number ⌝ }
+{
+    if number < 8192 {
+        return number as i16;
+    }
+    -1 - (16383 - number) as i16
 }
