@@ -1,11 +1,11 @@
 -- Numbers of 16 bits, as the code has them: read out of a field or a list, compared, and cast from and to 64 bits. Assumes nothing.
-use mathlib.Core.Path.{_≡_, sym, ap, _∙_}
+use mathlib.Core.Path.{_≡_, refl, sym, ap, _∙_}
 use mathlib.Core.List.{List}
 use mathlib.Core.Bool.{true, false, true≢false}
-use Prim.Native.Nat.{ℕ, _-_, _^_, _≤_, _<_}
+use Prim.Native.Nat.{ℕ, suc, _-_, _^_, _≤_, _<_}
 use native.Mathlib.Omega.{arith}
 use native.Mathlib.Nat.{not-suc-le-zero}
-use borrow.Author.Tests.{ltb-true, lt-ltb}
+use borrow.Author.Tests.{ltb-true, lt-ltb, le-ltb}
 use lib.IntN.{ℤ, pos, negsuc, _-ℤ_}
 use lib.Pow.{pow-mono}
 use lib.Signed.{mag, ltZ}
@@ -14,7 +14,7 @@ use mir.Val.{SFits, toZ, ofZ}
 use mir.ValLaws.{toZ-pos, toZ-ofZ}
 use Rattle.bits.specs.Told.{Accepted}
 use Rattle.bits.specs.Field.{Reading, reading, readTwos, field}
-use Rattle.bits.specs.Signed.{twosOf, fitsTwos}
+use Rattle.bits.specs.Signed.{twosOf, fitsTwos, twosBits}
 use Rattle.bits.proofs.FieldLaws.{field-lt}
 use Rattle.bits.proofs.SignedCode.{minus-one}
 use Rattle.bits.proofs.SignedLaws.{fits-twos, twos-fits}
@@ -71,3 +71,21 @@ pub minus-one-16 : (n : ℕ) → n < 2 ^ 15 → (SFits w16 (negsuc 0 -ℤ toZ w1
 minus-one-16 n h =
     let f : SFits w16 (negsuc n) = record { sfits = h } in
     rw (toZ-pos w16 n h, minus-one n) (f, toZ-ofZ w16 (negsuc n) f)
+
+-- ---- the 14 bits of a number that fits them, below zero and else: each difference fits, and each cast is of a number from 0 on
+
+up : (n : ℕ) → negsuc 0 -ℤ negsuc n ≡ pos n
+up n = simp (le-ltb (suc n) 1 (omega arith)) (ap pos (omega arith))
+
+pub bits-below : (z : ℤ) → SFits w16 z → fitsTwos 14 z ≡ true → ltZ (toZ w16 (ofZ w16 z)) (pos 0) ≡ true
+    → (SFits w16 (negsuc 0 -ℤ toZ w16 (ofZ w16 z))) × (toZ w16 (ofZ w16 (negsuc 0 -ℤ toZ w16 (ofZ w16 z))) ≡ pos (mag z)) × (mag z < 2 ^ 13) × (16383 - mag z ≡ twosBits 14 z)
+bits-below (pos n) f g e = absurd (not-suc-le-zero (ltb-true n 0 (rw (toZ-ofZ w16 (pos n) f) at e)))
+bits-below (negsuc n) f g e =
+    let l : n < 2 ^ 13 = ltb-true n (2 ^ 13) g in
+    let h : SFits w16 (pos n) = record { sfits = omega arith } in
+    rw (toZ-ofZ w16 (negsuc n) f, up n) (h, toZ-ofZ w16 (pos n) h, l, omega arith)
+
+pub bits-else : (z : ℤ) → SFits w16 z → fitsTwos 14 z ≡ true → ltZ (toZ w16 (ofZ w16 z)) (pos 0) ≡ false
+    → (toZ w16 (ofZ w16 z) ≡ pos (mag z)) × (mag z < 2 ^ 13) × (mag z ≡ twosBits 14 z)
+bits-else (pos n) f g e = (toZ-ofZ w16 (pos n) f, ltb-true n (2 ^ 13) g, refl)
+bits-else (negsuc n) f g e = absurd (true≢false (rw (toZ-ofZ w16 (negsuc n) f) at e))

@@ -35,6 +35,7 @@ pub mod CallLaws
 pub mod Read1059Laws
 pub mod Read1230Laws
 pub mod I16Laws
+pub mod PenLaws
 pub mod RecordLaws
 pub mod FaultLaws
 pub mod LinkLaws

@@ -3,6 +3,7 @@
 // `specs/` says what each function answers: read it first. A refused call writes nothing.
 pub mod answer;
 pub mod bias;
+mod pen;
 mod put;
 pub mod read1059;
 pub mod read1230;

@@ -1,23 +1,26 @@
 // Writing the bias block of message 1059.
 ghost use mathlib.Core.Path.{_≡_};
 ghost use mathlib.Core.Bool.{true, cond};
-ghost use mathlib.Core.List.{List, [], _∷_};
-ghost use Prim.Native.Nat.{ℕ, _≤_, _<_};
+ghost use mathlib.Core.List.{List, []};
+ghost use Prim.Native.Nat.{ℕ, _^_, _≤_, _<_};
 ghost use lib.ListN.{length, getD};
 ghost use lib.Dec.{ltb, eqb};
 ghost use lib.IntN.{ℤ};
 ghost use Rattle.bits.specs.Told.{tooMany, duplicate};
 ghost use Rattle.bits.specs.Signed.{fitsTwos, twosBits};
 ghost use Rattle.bits.specs.Outcome.{outcome};
-ghost use Rattle.bits.specs.Fields.{bits, putAll};
+ghost use Rattle.bits.specs.Fields.{putAll};
 ghost use Rattle.messages.specs.Answers.{toldBlock};
 ghost use Rattle.formats.specs.Put.{RoomFor, IsPut};
+ghost use Rattle.messages.specs.StepsPen.{drawn};
 ghost use Rattle.messages.specs.Records.{records1059};
 ghost use Rattle.messages.specs.Writer.{fine, firstFault, firstRepeat};
 ghost use Rattle.messages.specs.Write1059.{samePair, write1059};
 ghost use Rattle.messages.specs.Layout1059.{ofSatellite};
 ghost use Rattle.messages.specs.StepsWrite1059.{satelliteFields, satellitesFrom, toldFault, faultBy, Faultless, writeFaultless, writeKnown, nextOf, countOf, Links, Linked, crowdedIn, presentIn};
 use crate::answer::BlockWritten;
+use crate::pen;
+use crate::pen::Pen;
 use crate::put;
 use crate::signals1059::in_mask;
 use crate::signals1059::is_edition;
@@ -235,12 +238,12 @@ fn put_satellites(
     requires { ⌜ RoomFor (now bytes) start (satellitesFrom 0 64 (records1059 (now satellites) (now signals) (now biases))) × Faultless (now satellites) (now signals) (now biases) × Linked (now satellites) (now heads) (now links) (now counts) 0 × ((a : ℕ) → a < 64 → getD (now counts) a 0 < 32) ⌝ }
     ensures { λ r. ⌜ now (bytes .exit) ≡ putAll (now (bytes .entry)) start (satellitesFrom 0 64 (records1059 (now (satellites .entry)) (now (signals .entry)) (now (biases .entry)))) ⌝ }
 {
-    let mut at = start;
+    let mut pen = pen::open(bytes, start);
     let mut a: usize = 0;
     while a < 64 {
-        at = put_satellite(
+        pen = put_satellite(
             bytes,
-            at,
+            pen,
             a,
             counts[a],
             heads[a],
@@ -251,13 +254,14 @@ fn put_satellites(
         );
         a += 1;
     }
+    pen::lift(bytes, pen);
 }
 
 // Satellite a: its number, its bias count, and its biases from the one at `head` on by the links. Nothing where it has
-// none. The answer is the bit behind it.
+// none.
 fn put_satellite(
     bytes: &mut [u8],
-    start: usize,
+    first: Pen,
     a: usize,
     count: u16,
     head: u16,
@@ -265,28 +269,29 @@ fn put_satellite(
     satellites: &[u8],
     signals: &[u8],
     biases: &[i16],
-) -> usize
-    requires { ⌜ RoomFor (now bytes) start (satelliteFields a (ofSatellite a (records1059 (now satellites) (now signals) (now biases)))) × Faultless (now satellites) (now signals) (now biases) × Links (now satellites) (now links) 0 × (a < 64) × (count ≡ countOf a (now satellites)) × (count < 32) × (head ≡ nextOf (now satellites) a 0) ⌝ }
-    ensures { λ r. ⌜ IsPut (now (bytes .entry)) start (satelliteFields a (ofSatellite a (records1059 (now (satellites .entry)) (now (signals .entry)) (now (biases .entry))))) (now (bytes .exit)) r ⌝ }
+) -> Pen
+    requires { ⌜ RoomFor (drawn (now bytes) (first .at) (first .bits)) (first .at) (satelliteFields a (ofSatellite a (records1059 (now satellites) (now signals) (now biases)))) × Faultless (now satellites) (now signals) (now biases) × Links (now satellites) (now links) 0 × (a < 64) × (count ≡ countOf a (now satellites)) × (count < 32) × (head ≡ nextOf (now satellites) a 0) ⌝ }
+    ensures { λ r. ⌜ IsPut (drawn (now (bytes .entry)) (first .at) (first .bits)) (first .at) (satelliteFields a (ofSatellite a (records1059 (now (satellites .entry)) (now (signals .entry)) (now (biases .entry))))) (drawn (now (bytes .exit)) (r .at) (r .bits)) (r .at) ⌝ }
 {
     if count == 0 {
-        return start;
+        return first;
     }
-    let p = put::unsigned(bytes, start, 6, a as u64);
-    let mut at = put::unsigned(bytes, p, 5, count as u64);
+    let mut pen = pen::two(bytes, first, 6, a as u64, 5, count as u64);
     let mut i = head as usize;
     while i < satellites.len() {
-        at = put_bias(bytes, at, signals[i], biases[i]);
+        pen = pen::two(bytes, pen, 5, signals[i] as u64, 14, bits_of(biases[i]));
         i = links[i] as usize;
     }
-    at
+    pen
 }
 
-// One bias: its signal and its number. The answer is the bit behind it.
-fn put_bias(bytes: &mut [u8], at: usize, signal: u8, bias: i16) -> usize
-    requires { ⌜ RoomFor (now bytes) at (bits 5 signal ∷ bits 14 (twosBits 14 bias) ∷ []) × (signal < 32) × (fitsTwos 14 bias ≡ true) ⌝ }
-    ensures { λ r. ⌜ IsPut (now (bytes .entry)) at (bits 5 signal ∷ bits 14 (twosBits 14 bias) ∷ []) (now (bytes .exit)) r ⌝ }
+// The 14 bits of a bias.
+fn bits_of(bias: i16) -> u64
+    requires { ⌜ fitsTwos 14 bias ≡ true ⌝ }
+    ensures { λ r. ⌜ (r ≡ twosBits 14 bias) × (r < 2 ^ 14) ⌝ }
 {
-    let p = put::unsigned(bytes, at, 5, signal as u64);
-    put::twos(bytes, p, 14, bias)
+    if bias < 0 {
+        return 16383 - (-1 - bias) as u64;
+    }
+    bias as u64
 }
