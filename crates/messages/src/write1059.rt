@@ -92,13 +92,16 @@ fn first_fault(mask: u32, satellites: &[u8], signals: &[u8], biases: &[i16]) -> 
 {
     let mut i: usize = 0;
     while i < satellites.len() {
-        if 63 < satellites[i] {
+        let satellite = satellites[i];
+        let known = in_mask(mask, signals[i]);
+        let fits = fits_bias(biases[i]);
+        if 63 < satellite {
             return Fault::Satellite(i);
         }
-        if !in_mask(mask, signals[i]) {
+        if !known {
             return Fault::Signal(i);
         }
-        if !fits_bias(biases[i]) {
+        if !fits {
             return Fault::Range(i);
         }
         i += 1;

@@ -29,33 +29,33 @@ loop-holds c = (omega arith, refl)
 
 returns : tie.Need-returns Inv-loop μ-loop
 returns c =
-    let s = c .before .before .before .before .before .before in
+    let s = c .before .before .before .before .before .before .before .before .before .before in
     let a = s .args in
-    let l = c .before .before .before .loop in
-    sym (l .inv .1 ∙ sym (is-satellite (a .mask) (a .satellites .now) (a .signals .now) (a .biases .now) (s .pre .0) (s .pre .1) (l .i) (c .before .before .loop-test .taken) (c .if1 .taken)))
+    let l = c .before .before .before .before .before .before .before .loop in
+    sym (l .inv .1 ∙ sym (is-satellite (a .mask) (a .satellites .now) (a .signals .now) (a .biases .now) (s .pre .0) (s .pre .1) (l .i) (c .before .before .before .before .before .before .loop-test .taken) (c .if1 .taken)))
 
 returns-2 : tie.Need-returns-2 Inv-loop μ-loop
 returns-2 c =
-    let s = c .before .before .before .before .before .before .before .before .before in
+    let s = c .before .before .before .before .before .before .before .before .before .before .before in
     let a = s .args in
-    let l = c .before .before .before .before .before .before .loop in
-    sym (l .inv .1 ∙ sym (is-signal (a .mask) (a .satellites .now) (a .signals .now) (a .biases .now) (s .pre .0) (s .pre .1) (l .i) (c .before .before .before .before .before .loop-test .taken) (c .before .before .before .if1 .left) (sym (c .before .in-mask .ensures) ∙ not-true _ (c .if2 .taken))))
+    let l = c .before .before .before .before .before .before .before .before .loop in
+    sym (l .inv .1 ∙ sym (is-signal (a .mask) (a .satellites .now) (a .signals .now) (a .biases .now) (s .pre .0) (s .pre .1) (l .i) (c .before .before .before .before .before .before .before .loop-test .taken) (c .before .if1 .left) (sym (c .before .before .before .before .in-mask .ensures) ∙ not-true _ (c .if2 .taken))))
 
 returns-3 : tie.Need-returns-3 Inv-loop μ-loop
 returns-3 c =
     let s = c .before .before .before .before .before .before .before .before .before .before .before .before in
     let a = s .args in
     let l = c .before .before .before .before .before .before .before .before .before .loop in
-    let e = c .before .fits-bias .ensures ∙ ap (fitsTwos 14) (same-16 (getD (a .biases .now) (l .i) (pos 0)) (c .before .before .fits-bias-arg .given)) in
-    sym (l .inv .1 ∙ sym (is-range (a .mask) (a .satellites .now) (a .signals .now) (a .biases .now) (s .pre .0) (s .pre .1) (l .i) (c .before .before .before .before .before .before .before .before .loop-test .taken) (c .before .before .before .before .before .before .if1 .left) (sym (c .before .before .before .before .in-mask .ensures) ∙ not-false _ (c .before .before .before .if2 .left)) (sym e ∙ not-true _ (c .if3 .taken))))
+    let e = c .before .before .before .fits-bias .ensures ∙ ap (fitsTwos 14) (same-16 (getD (a .biases .now) (l .i) (pos 0)) (c .before .before .before .before .fits-bias-arg .given)) in
+    sym (l .inv .1 ∙ sym (is-range (a .mask) (a .satellites .now) (a .signals .now) (a .biases .now) (s .pre .0) (s .pre .1) (l .i) (c .before .before .before .before .before .before .before .before .loop-test .taken) (c .before .before .if1 .left) (sym (c .before .before .before .before .before .in-mask .ensures) ∙ not-false _ (c .before .if2 .left)) (sym e ∙ not-true _ (c .if3 .taken))))
 
 loop-again : tie.Need-loop-again Inv-loop μ-loop
 loop-again c =
     let s = c .before .before .before .before .before .before .before .before .before .before .before .before in
     let a = s .args in
     let l = c .before .before .before .before .before .before .before .before .before .loop in
-    let e = c .before .fits-bias .ensures ∙ ap (fitsTwos 14) (same-16 (getD (a .biases .now) (l .i) (pos 0)) (c .before .before .fits-bias-arg .given)) in
-    (omega arith, l .inv .1 ∙ is-fine (a .mask) (a .satellites .now) (a .signals .now) (a .biases .now) (s .pre .0) (s .pre .1) (l .i) (c .before .before .before .before .before .before .before .before .loop-test .taken) (c .before .before .before .before .before .before .if1 .left) (sym (c .before .before .before .before .in-mask .ensures) ∙ not-false _ (c .before .before .before .if2 .left)) (sym e ∙ not-false _ (c .if3 .left)))
+    let e = c .before .before .before .fits-bias .ensures ∙ ap (fitsTwos 14) (same-16 (getD (a .biases .now) (l .i) (pos 0)) (c .before .before .before .before .fits-bias-arg .given)) in
+    (omega arith, l .inv .1 ∙ is-fine (a .mask) (a .satellites .now) (a .signals .now) (a .biases .now) (s .pre .0) (s .pre .1) (l .i) (c .before .before .before .before .before .before .before .before .loop-test .taken) (c .before .before .if1 .left) (sym (c .before .before .before .before .before .in-mask .ensures) ∙ not-false _ (c .before .if2 .left)) (sym e ∙ not-false _ (c .if3 .left)))
 
 returns-4 : tie.Need-returns-4 Inv-loop μ-loop
 returns-4 c =
@@ -71,13 +71,13 @@ first-fault-spec =
     μ-loop
     loop-holds
     (λ c. search needs)
+    (λ c. search needs)
+    (λ c κs. search needs)
+    (λ c. search needs)
+    (λ c. search needs)
+    (λ c κs. search needs)
     returns
-    (λ c. search needs)
-    (λ c κs. search needs)
     returns-2
-    (λ c. search needs)
-    (λ c. search needs)
-    (λ c κs. search needs)
     returns-3
     (λ c. search needs)
     (λ c. search needs)
