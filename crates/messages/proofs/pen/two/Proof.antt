@@ -1,7 +1,6 @@
 -- `messages::pen::two` meets its contract. The two fields are one, which has the first number above the second. Assumes nothing.
-use mathlib.Core.Path.{_≡_}
 use native.Mathlib.Omega.{arith}
-use Rattle.messages.proofs.PenLaws.{two-fit, two-put, length-drawn, bytes-drawn, two-within}
+use Rattle.messages.proofs.PenLaws.{two-fit, two-put, bytes-drawn, two-within}
 use borrow.Author.Needs.{needs}
 use Rattle.messages.proofs.pen.two.Statement.{statement}
 use Rattle.messages.proofs.pen.two.Tie as tie
