@@ -72,7 +72,7 @@ module _ (t : List ℕ) (first : getD t 0 0 ≡ 0xD3) where
   cut l = rw (eq-eqb (getD t 0 0) 0xD3 first, lt-leb (dataLength t + 6) (length t) l)
 
   module _ (l : dataLength t + 6 ≤ length t) where
-    good : ownSum t ≡ sentSum t → Good (dataLength t + 6) ≡ candidate rtcm t
+    pub good : ownSum t ≡ sentSum t → Good (dataLength t + 6) ≡ candidate rtcm t
     unfolding candidate rtcm
     good q = rw (eq-eqb (getD t 0 0) 0xD3 first, le-leb (dataLength t + 6) (length t) l, eq-eqb (ownSum t) (sentSum t) q)
 

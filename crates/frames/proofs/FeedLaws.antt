@@ -46,7 +46,7 @@ module _ {W K : Type 0} (d : List ℕ → Decision W K) where
   begins-skipping w x (Found is k f h) = refl
 
   module _ (whole : Whole d) where
-    begins-found : (k : K) (n x : ℕ) (xs : List ℕ) → d (x ∷ xs) ≡ Take k n → scan d (x ∷ xs) ≡ after (Framed k (take n (x ∷ xs)) ∷ []) (scan d (drop n (x ∷ xs)))
+    pub begins-found : (k : K) (n x : ℕ) (xs : List ℕ) → d (x ∷ xs) ≡ Take k n → scan d (x ∷ xs) ≡ after (Framed k (take n (x ∷ xs)) ∷ []) (scan d (drop n (x ∷ xs)))
     begins-found k zero x xs e = absurd (not-suc-le-zero (whole (x ∷ xs) k 0 e .0))
     begins-found k (suc n) x xs e = rw e (ap (after (Framed k (take (suc n) (x ∷ xs)) ∷ [])) (past-drop n xs))
 

@@ -42,3 +42,4 @@ pub mod BecameLaws
 pub mod FateLaws
 pub mod OnlyLaws
 pub mod EndLaws
+pub mod ListLaws

@@ -14,3 +14,5 @@ pub mod Ubx
 pub mod Either
 pub mod Modes
 pub mod Close
+pub mod Listing
+pub mod ListSteps

@@ -4,6 +4,8 @@
 pub mod close;
 pub mod fate;
 pub mod frame;
+pub mod list;
+mod list_many;
 mod many;
 pub mod scan;
 pub mod scanner;

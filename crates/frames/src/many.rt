@@ -18,9 +18,9 @@ use crate::scanner;
 use crate::ubx;
 
 // A window: its first place, and the place behind its last byte.
-struct Window {
-    base: usize,
-    stop: usize,
+pub(crate) struct Window {
+    pub base: usize,
+    pub stop: usize,
 }
 
 // The search goes on from place `from`, with the bytes up to place `first` taken. The first window is a small one, since a
@@ -63,7 +63,14 @@ pub(crate) fn find_on(held: &[u8], piece: &[u8], mode: u32, from: usize, first: 
 
 // The window that serves a candidate at place i: the one at hand, if it reaches as far as a candidate can; else a new one
 // from there on.
-fn cover(held: &[u8], piece: &[u8], base: usize, stop: usize, i: usize, sums: &mut [u32]) -> Window
+pub(crate) fn cover(
+    held: &[u8],
+    piece: &[u8],
+    base: usize,
+    stop: usize,
+    i: usize,
+    sums: &mut [u32],
+) -> Window
     requires { ⌜ (i < length (now held) + length (now piece)) × (length (now held) + length (now piece) < 2 ^ 64) × (length (now sums) ≡ 4097) × (base ≤ i) × Tails (now held ++ now piece) (now sums) base stop ⌝ }
     ensures { λ r. ⌜ (r .base ≤ i) × (i + min (length (now (held .entry)) + length (now (piece .entry)) - i) 1029 ≤ r .stop) × Tails (now (held .entry) ++ now (piece .entry)) (now (sums .exit)) (r .base) (r .stop) × (length (now (sums .exit)) ≡ 4097) ⌝ }
 {
@@ -75,7 +82,7 @@ fn cover(held: &[u8], piece: &[u8], base: usize, stop: usize, i: usize, sums: &m
 }
 
 // A new window from place i on, of at most so many bytes. They are copied, so that it sees held bytes and piece as one.
-fn open(held: &[u8], piece: &[u8], i: usize, size: usize, sums: &mut [u32]) -> Window
+pub(crate) fn open(held: &[u8], piece: &[u8], i: usize, size: usize, sums: &mut [u32]) -> Window
     requires { ⌜ (i ≤ length (now held) + length (now piece)) × (length (now held) + length (now piece) < 2 ^ 64) × (size ≤ 4096) × (length (now sums) ≡ 4097) ⌝ }
     ensures { λ r. ⌜ (r .base ≡ i) × (r .stop ≡ i + min size (length (now (held .entry)) + length (now (piece .entry)) - i)) × Tails (now (held .entry) ++ now (piece .entry)) (now (sums .exit)) (r .base) (r .stop) × (length (now (sums .exit)) ≡ 4097) ⌝ }
 {
@@ -90,7 +97,7 @@ fn open(held: &[u8], piece: &[u8], i: usize, size: usize, sums: &mut [u32]) -> W
 }
 
 // The check of the start byte at place i: of a D3 by the window, of a B5 by its own sums.
-fn candidate_in(
+pub(crate) fn candidate_in(
     held: &[u8],
     piece: &[u8],
     base: usize,

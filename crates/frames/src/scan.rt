@@ -258,7 +258,7 @@ pub(crate) enum Candidate {
 }
 
 // The check of the start byte at place i: in mode 0 that of RTCM, else that of its kind.
-fn candidate_at(held: &[u8], piece: &[u8], i: usize, mode: u32) -> Candidate
+pub(crate) fn candidate_at(held: &[u8], piece: &[u8], i: usize, mode: u32) -> Candidate
     requires { ⌜ (i < length (now held) + length (now piece)) × (length (now held) + length (now piece) < 2 ^ 64) × (startsIn mode (getD (now held ++ now piece) i 0) ≡ true) ⌝ }
     ensures { λ r. ⌜ r ≡ candidate (framingOf mode) (drop i (now (held .entry) ++ now (piece .entry))) ⌝ }
 {
