@@ -16,9 +16,10 @@ use Rattle.frames.specs.Framing.{Framing, decide}
 use Rattle.frames.specs.Scan.{scan, framed}
 use Rattle.frames.specs.Rtcm.{Kind}
 use Rattle.frames.specs.Call.{Scanner, heldFrom, onwards}
-use Rattle.batch.specs.Batch.{Found, Areas, areas, firstOf, leftOf, AllAnswer, Frames, answerOf, calledAll, heldIn, feedAllOf}
+use Rattle.frames.specs.Listing.{Found, firstOf}
+use Rattle.batch.specs.Batch.{Areas, areas, leftOf, AllAnswer, Frames, answerOf, calledAll, heldIn, feedAllOf}
 use Rattle.batch.specs.Steps.{Lists, lists, Walks, settled}
-use Rattle.batch.specs.declared.walk.Walked.{Walked}
+use Rattle.frames.specs.declared.list.Listing.{Listing}
 
 -- what a call accepts: the areas, the scanner and the piece
 pub record FitsAll (a : Areas) (x : Scanner) (p : List ℕ) : Type 0 where
@@ -190,7 +191,7 @@ module _ {W : Type 0} (F : Framing W Kind) (a : Areas) (x : Scanner) (p : List �
 
   -- ---- a walk and what it leads to are the call
 
-  module _ (w : Walked) (f : Found Kind) (h : List ℕ) (b : Lists) (v : Walks w f (length h) (length p) (lists (a .seam) (a .starts) (a .lengths) (a .kinds)) b) where
+  module _ (w : Listing) (f : Found Kind) (h : List ℕ) (b : Lists) (v : Walks w f (length h) (length p) (lists (a .seam) (a .starts) (a .lengths) (a .kinds)) b) where
     -- the call by the numbers of a walk
     abbrev by-numbers : ℕ → ℕ → ℕ → Bool → Outcome AllAnswer (List ℕ)
     by-numbers n stop m full =
@@ -204,7 +205,7 @@ module _ {W : Type 0} (F : Framing W Kind) (a : Areas) (x : Scanner) (p : List �
     walk-calls e = let u = e ∙ settled-is in λ j. outcome (u j .answer) (areas (u j .areas) (v .seam j) (v .starts j) (v .lengths j) (v .kinds j))
 
   -- the same, as the code makes them
-  pub all-called : FitsAll a x p → (w : Walked) (b : Lists)
+  pub all-called : FitsAll a x p → (w : Listing) (b : Lists)
       → Walks w (firstOf (length (a .starts)) (scan (decide F) (take (x .count - 0) (a .held) ++ p))) (length (take (x .count - 0) (a .held))) (length p) (lists (a .seam) (a .starts) (a .lengths) (a .kinds)) b
       → {r : Told AllAnswer} {g : List ℕ} → outcome r g ≡ settled w x (take (x .count) (a .held)) p (a .held)
       → outcome r (areas g (b .seam) (b .starts) (b .lengths) (b .kinds)) ≡ feedAllOf F a x p

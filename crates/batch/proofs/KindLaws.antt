@@ -24,27 +24,6 @@ use Rattle.frames.proofs.WalkLaws.{Finds}
 use Rattle.batch.specs.Batch.{kindNumber}
 use Rattle.batch.specs.Steps.{kindNumberAt}
 
--- items that are skipped stand before what follows them
-stands-behind : {W K : Type 0} (d : List ℕ → Decision W K) (t : List ℕ) (is js : List (Item W K)) → framesOf is ≡ [] → Stands d t (is ++ js) → Stands d (drop (length is) t) js
-stands-behind d t [] js e x = x
-stands-behind d t (Skipped w b ∷ is) js e x =
-    let m : 1 + length is ≡ suc (length is) = omega arith in
-    subst (λ u. Stands d u js) (drop-drop (length is) 1 t ∙ ap (λ n. drop n t) m) (stands-behind d (drop 1 t) is js e (x .2))
-stands-behind d t (Framed k f ∷ is) js e x = let z : _≡_ {A = ℕ} 0 1 = cc in absurd (omega arith)
-
-module _ {W K : Type 0} (F : Framing W K) (L : Lawful F) (s : List ℕ) (from p n : ℕ) (x : Finds F s from p n) where
-  -- THE FRAME was decided at its place.
-  pub decided-there : decide F (drop p s) ≡ Take (x .kind) n
-  decided-there =
-      let f = cut s (walk.Frame p n) in
-      let rest = scan (decide F) (drop (p + n) s) .items in
-      let all = stands (decide F) (decides F L .whole) (drop from s) in
-      let here = stands-behind (decide F) (drop from s) (x .items) (Framed (x .kind) f ∷ rest) (x .none)
-      (subst (λ is. Stands (decide F) (drop from s) is) (ap (λ r. r .items) (x .gives) ∙ append-assoc (x .items) (Framed (x .kind) f ∷ []) rest) all) in
-      let l : length f ≡ n = length-take-le n (drop p s) (rw length-drop (omega (arith, x .fits))) in
-      let at : drop p s ≡ drop (length (x .items)) (drop from s) = sym (drop-drop (length (x .items)) from s ∙ ap (λ i. drop i s) (x .count)) in
-      ap (decide F) at ∙ here .0 ∙ ap (Take (x .kind)) l
-
 -- what was taken was the verdict
 was-verdict : {W K : Type 0} (F : Framing W K) (s : List ℕ) (k : K) (n : ℕ) → decide F s ≡ Take k n → F .verdict s ≡ Take k n
 was-verdict F s k n e = go (leb (F .need s) (length s)) e

@@ -1,9 +1,9 @@
 pub mod ListLaws
 pub mod KindLaws
-pub mod TrailLaws
+pub mod SplitLaws
+pub mod FillLaws
 pub mod StopLaws
 pub mod CallLaws
 pub mod ToldLaws
-pub mod SplitLaws
 pub mod ReadLaws
 pub mod RepeatedLaws

@@ -1,52 +1,16 @@
--- Lists that grow at their end, and the areas that they are written over. Assumes nothing.
-use mathlib.Core.Path.{_≡_, refl, sym, ap, _∙_}
-use mathlib.Core.List.{List, [], _∷_, _++_, map, append-assoc}
-use Prim.Native.Nat.{ℕ, suc, _+_, _-_, _≤_, _<_, min}
+-- Parts written over an area, one behind the other. Assumes nothing.
+use mathlib.Core.Path.{_≡_, sym, ap, _∙_}
+use mathlib.Core.List.{List, _++_, append-assoc}
+use Prim.Native.Nat.{ℕ, _+_, _-_, _≤_, _<_, min}
 use native.Mathlib.Omega.{arith}
-use lib.ListN.{length, getD, take, drop, set, length-append, length-drop}
-use lib.Seq.{drop-cons, set-at, append-snoc, length-take-le}
+use lib.ListN.{length, take, drop, length-append, length-drop}
+use lib.Seq.{length-take-le}
 use borrow.Author.Tests.{lt-ltb, le-ltb}
 use mathlib.Core.Bool.{cond}
 use lib.Dec.{ltb}
 use Rattle.bits.specs.Onto.{onto, over}
 use Rattle.bits.proofs.OntoLaws.{over-onto}
-use Rattle.frames.specs.Scan.{Handed, framed}
 use Rattle.frames.proofs.SeamLaws.{part-across}
-use Rattle.batch.specs.Batch.{behind, seamWith, seamOf}
-
--- ---- one more
-
-pub map-snoc : {A B : Type 0} (f : A → B) (xs : List A) (y : A) → map f (xs ++ (y ∷ [])) ≡ map f xs ++ (f y ∷ [])
-map-snoc f [] y = refl
-map-snoc f (x ∷ xs) y = ap (λ l. f x ∷ l) (map-snoc f xs y)
-
-pub length-map : {A B : Type 0} (f : A → B) (xs : List A) → length (map f xs) ≡ length xs
-length-map f [] = refl
-length-map f (x ∷ xs) = ap suc (length-map f xs)
-
-module _ {K : Type 0} where
-  pub behind-snoc : (n : ℕ) (fs : List (Handed K)) (f : Handed K) → behind n (fs ++ (f ∷ [])) ≡ f .place + length (f .bytes)
-  behind-snoc n [] f = refl
-  behind-snoc n (g ∷ fs) f = behind-snoc (g .place + length (g .bytes)) fs f
-
-  pub framed-snoc : (fs : List (Handed K)) (f : Handed K) → framed (fs ++ (f ∷ [])) ≡ framed fs + length (f .bytes)
-  framed-snoc [] f = omega arith
-  framed-snoc (g ∷ fs) f = omega (arith, framed-snoc fs f)
-
-  pub seam-snoc : (h : ℕ) (fs : List (Handed K)) (f : Handed K) (s : List ℕ) → seamOf h (fs ++ (f ∷ [])) s ≡ seamWith h f (seamOf h fs s)
-  seam-snoc h [] f s = refl
-  seam-snoc h (g ∷ fs) f s = seam-snoc h fs f (seamWith h g s)
-
--- the place behind what is written takes one number more
-pub next-place : (xs d : List ℕ) (k v : ℕ) → length xs ≡ k → k < length d → set (onto xs d) k v ≡ onto (xs ++ (v ∷ [])) d
-next-place xs d k v e l =
-    let m : length (xs ++ (v ∷ [])) ≡ suc k = length-append xs (v ∷ []) ∙ omega arith in
-    ap (λ t. set t k v) (ap (λ n. xs ++ drop n d) e ∙ ap (λ t. xs ++ t) (drop-cons d k 0 l))
-    ∙ set-at xs (getD d k 0) (drop (suc k) d) v k e
-    ∙ sym (append-snoc xs v (drop (suc k) d))
-    ∙ ap (λ n. (xs ++ (v ∷ [])) ++ drop n d) (sym m)
-
--- ---- parts written one behind the other
 
 over-is : (i : ℕ) (xs d : List ℕ) → i ≤ length d → over i xs d ≡ onto (take i d ++ xs) d
 over-is i xs d l =

@@ -15,7 +15,8 @@ use Rattle.frames.specs.Scan.{Item, Skipped, Framed, Handed, handed}
 use Rattle.frames.specs.Framing.{Framing, Lawful, decide}
 use Rattle.frames.specs.Rtcm.{Kind, Rtcm, Ubx}
 use Rattle.frames.proofs.StandLaws.{Stands}
-use Rattle.batch.specs.Batch.{kindNumber, startsOf, lengthsOf, kindsOf, seamWith, seamOf}
+use Rattle.frames.specs.Listing.{startsOf, lengthsOf}
+use Rattle.batch.specs.Batch.{kindNumber, kindsOf, seamWith, seamOf}
 use Rattle.batch.specs.Repeated.{kindOf, readAll}
 use Rattle.batch.proofs.KindLaws.{not-longer}
 

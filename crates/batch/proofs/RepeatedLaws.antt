@@ -5,7 +5,7 @@ use mathlib.Core.List.{List, [], _∷_, _++_, append-nil, append-assoc}
 use Prim.Native.Nat.{ℕ, _+_, _-_, _≤_}
 use native.Mathlib.Nat.{zero-add, add-zero}
 use native.Mathlib.Omega.{arith}
-use lib.ListN.{length, take, drop, length-append, length-drop, take-append-drop}
+use lib.ListN.{length, take, drop, length-append, length-drop, length-map, take-append-drop}
 use lib.Seq.{take-at, drop-at, take-all, drop-append-le, length-take-le}
 use lib.Dec.{leb}
 use borrow.Author.Tests.{leb-true}
@@ -24,40 +24,12 @@ use Rattle.frames.proofs.JoinLaws.{every-byte}
 use Rattle.frames.proofs.StandLaws.{Stands, stands}
 use Rattle.frames.proofs.Demand as demand
 use Rattle.frames.proofs.ModeLaws.{lawful}
-use Rattle.batch.specs.Batch.{Areas, behind, firstOf, startsOf, lengthsOf, kindsOf, seamOf, listed, AllAnswer, Frames, calledAll, feedAllOf}
+use Rattle.frames.specs.Listing.{startsOf, lengthsOf}
+use Rattle.batch.specs.Batch.{Areas, kindsOf, seamOf, listed, AllAnswer, Frames, calledAll, feedAllOf}
 use Rattle.batch.specs.Repeated.{readAll, readOff, Listed, last, then}
-use Rattle.batch.proofs.ListLaws.{length-map}
 use Rattle.batch.proofs.CallLaws.{FitsAll, accepted, accepts}
-use Rattle.batch.proofs.SplitLaws.{split, resumes}
+use Rattle.batch.proofs.SplitLaws.{firsts, resumes}
 use Rattle.batch.proofs.ReadLaws.{InOrder, in-order, handed-moved, read-back}
-
--- ---- the first frames of a scan, as its first items
-
-pub record Firsts {W K : Type 0} (n : ℕ) (r : Scanned W K) : Type 0 where
-  pub front : List (Item W K)
-  pub back : List (Item W K)
-  pub full : Bool
-  pub both : r .items ≡ front ++ back
-  pub first : firstOf n r ≡ record { frames = handed 0 front; stop = length (bytesOf front); full = full }
-  pub all : full ≡ false → back ≡ []
-
-module _ {W K : Type 0} (n : ℕ) (some : 1 ≤ n) (r : Scanned W K) where
-  by-test : (b : Bool) → leb n (length (handed 0 (r .items))) ≡ b → Firsts n r
-  by-test true e =
-      let s = split 0 n (r .items) (leb-true n (length (handed 0 (r .items))) e) in
-      let u : behind 0 (take n (handed 0 (r .items))) ≡ length (bytesOf (s .front)) = ap (behind 0) (sym (s .frames)) ∙ s .ends 0 some ∙ zero-add (length (bytesOf (s .front))) in
-      record {
-        front = s .front;
-        back = s .back;
-        full = true;
-        both = s .both;
-        first = rw e (λ j. record { frames = sym (s .frames) j; stop = u j; full = true });
-        all = λ q. let z : _≡_ {A = ℕ} 0 1 = cc in absurd (omega arith);
-      }
-  by-test false e = record { front = r .items; back = []; full = false; both = sym (append-nil (r .items)); first = rw e; all = λ q. refl }
-
-  pub firsts : Firsts n r
-  firsts = by-test (leb n (length (handed 0 (r .items)))) refl
 
 module _ (mode : ℕ) where
   abbrev d : List ℕ → Decision Why Kind
@@ -93,9 +65,9 @@ module _ (mode : ℕ) where
       let fs = handed 0 front in
       let h = before a x in
       let u : InOrder (h ++ p) 0 fs = firsts-in-order (in-order (framingOf mode) (lawful mode) (h ++ p) 0 (front ++ back) (subst (λ is. Stands d (h ++ p) is) e (stands d (decides (framingOf mode) (lawful mode) .whole) (h ++ p)))) in
-      let s : take (length fs) (onto (startsOf fs) (a .starts)) ≡ startsOf fs = take-at (startsOf fs) _ (length fs) (length-map (λ f. f .place) fs) in
-      let l : take (length fs) (onto (lengthsOf fs) (a .lengths)) ≡ lengthsOf fs = take-at (lengthsOf fs) _ (length fs) (length-map (λ f. length (f .bytes)) fs) in
-      let k : take (length fs) (onto (kindsOf fs) (a .kinds)) ≡ kindsOf fs = take-at (kindsOf fs) _ (length fs) (length-map _ fs) in
+      let s : take (length fs) (onto (startsOf fs) (a .starts)) ≡ startsOf fs = take-at (startsOf fs) _ (length fs) (length-map fs (λ f. f .place)) in
+      let l : take (length fs) (onto (lengthsOf fs) (a .lengths)) ≡ lengthsOf fs = take-at (lengthsOf fs) _ (length fs) (length-map fs (λ f. length (f .bytes))) in
+      let k : take (length fs) (onto (kindsOf fs) (a .kinds)) ≡ kindsOf fs = take-at (kindsOf fs) _ (length fs) (length-map fs _) in
       (λ j. readAll i (length h) p (seamOf (length h) fs (a .seam)) (s j) (l j) (k j))
       ∙ read-back i h p (omega (arith, held-length a x p f, f .count)) fs 0 (a .seam) (f .seam) u
       ∙ handed-moved i 0 front ∙ ap (λ m. handed m front) (add-zero i)

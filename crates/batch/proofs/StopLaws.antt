@@ -13,9 +13,9 @@ use Rattle.bits.specs.Onto.{onto}
 use Rattle.frames.specs.Call.{Scanner, heldFrom, onwards}
 use Rattle.batch.specs.Batch.{takenOf, leftOf, Frames}
 use Rattle.batch.specs.Steps.{foundBy, Within, settled}
-use Rattle.batch.specs.declared.walk.Walked.{Walked}
+use Rattle.frames.specs.declared.list.Listing.{Listing}
 
-module _ (w : Walked) (h p : ℕ) where
+module _ (w : Listing) (h p : ℕ) where
   pub takes-all : w .full ≡ false → p ≡ takenOf (foundBy w) h p
   takes-all e = rw e
 
@@ -41,11 +41,11 @@ module _ (w : Walked) (h p : ℕ) where
   stop-taken area v = reached (w .full) (v .inside)
 
 -- the places of a walk over the first n bytes of an area
-pub within-area : (w : Walked) (a : List ℕ) (n m : ℕ) → length a ≡ 1029 → n ≤ length a → Within 1029 (length (take (n - 0) a)) m w → Within (length a) n m w
+pub within-area : (w : Listing) (a : List ℕ) (n m : ℕ) → length a ≡ 1029 → n ≤ length a → Within 1029 (length (take (n - 0) a)) m w → Within (length a) n m w
 within-area w a n m e l v = subst₂ (λ i j. Within i j m w) (sym e) (length-take-le (n - 0) a (omega arith) ∙ sub-zero n) v
 
 -- the moves, as the code makes them
-module _ (w : Walked) (a : List ℕ) (x : Scanner) (p : List ℕ) (l : x .count ≤ length a) where
+module _ (w : Listing) (a : List ℕ) (x : Scanner) (p : List ℕ) (l : x .count ≤ length a) where
   pub settles : (t n s : ℕ) (y : Scanner) (i : ℕ) (b : List ℕ) → t ≡ takenOf (foundBy w) (x .count) (length p) → t ≤ length p
       → n ≡ x .count + length (take (t - 0) p) - w .stop → y ≡ onwards x t n → i ≡ heldFrom x → s ≡ w .stop - w .framed
       → b ≡ onto (drop (w .stop) (take (x .count) a ++ take (t - 0) p)) a

@@ -1,36 +1,19 @@
 -- All frames of a piece in one call: the first frames of the scan of the held bytes with the piece behind them. Assumes nothing.
-use mathlib.Core.Bool.{Bool, true, false, cond, not}
+use mathlib.Core.Bool.{Bool, cond, not}
 use mathlib.Core.List.{List, [], _∷_, _++_, map}
 use Prim.Native.Nat.{ℕ, _+_, _-_, _^_}
 use lib.ListN.{length, take, drop}
-use lib.Dec.{leb, ltb, eqb}
+use lib.Dec.{ltb, eqb}
 use Rattle.bits.specs.Told.{Told, Accepted, size, state, room}
 use Rattle.bits.specs.Outcome.{Outcome, outcome, refusing}
 use Rattle.bits.specs.Onto.{onto, over}
-use Rattle.frames.specs.Scan.{Scanned, Handed, scan, bytesOf, handed, framed}
+use Rattle.frames.specs.Scan.{Handed, scan, framed}
 use Rattle.frames.specs.Framing.{Framing, decide}
 use Rattle.frames.specs.Rtcm.{Kind, Rtcm, Ubx}
 use Rattle.frames.specs.Call.{Scanner, heldFrom, onwards}
+use Rattle.frames.specs.Listing.{Found, firstOf, startsOf, lengthsOf}
 
--- ---- what is found
-
--- Frames, whose places are counted from the first byte held; the place where scanning stops; and whether the lists are full.
-pub record Found (K : Type 0) : Type 0 where
-  pub frames : List (Handed K)
-  pub stop : ℕ
-  pub full : Bool
-
--- the place behind the last of the frames, or n where there is none
-abbrev pub behind : {K : Type 0} → ℕ → List (Handed K) → ℕ
-behind n [] = n
-behind n (f ∷ fs) = behind (f .place + length (f .bytes)) fs
-
--- Of a scan, for lists of n places. With n frames or more: the first n, and scanning stops behind the last of them. With fewer: all frames, and it stops where the held bytes begin, behind all items.
-abbrev pub firstOf : {W K : Type 0} → ℕ → Scanned W K → Found K
-firstOf n r =
-    cond (leb n (length (handed 0 (r .items))))
-    (record { frames = take n (handed 0 (r .items)); stop = behind 0 (take n (handed 0 (r .items))); full = true })
-    (record { frames = handed 0 (r .items); stop = length (bytesOf (r .items)); full = false })
+-- ---- what is taken, and what is then held
 
 -- the bytes taken of a piece of p bytes behind h held: with full lists those before the stop, else all
 abbrev pub takenOf : {K : Type 0} → Found K → ℕ → ℕ → ℕ
@@ -58,13 +41,7 @@ abbrev pub kindNumber : Kind → ℕ
 kindNumber Rtcm = 0
 kindNumber Ubx = 1
 
--- the places, the lengths and the kinds of frames
-abbrev pub startsOf : List (Handed Kind) → List ℕ
-startsOf fs = map (λ f. f .place) fs
-
-abbrev pub lengthsOf : List (Handed Kind) → List ℕ
-lengthsOf fs = map (λ f. length (f .bytes)) fs
-
+-- the kinds of frames
 abbrev pub kindsOf : List (Handed Kind) → List ℕ
 kindsOf fs = map (λ f. kindNumber (f .kind)) fs
 

@@ -11,7 +11,7 @@ ghost use Rattle.batch.specs.Answers.{toldAll};
 ghost use Rattle.batch.specs.Steps.{foundBy, settled, Within};
 use crate::copy;
 use crate::walk;
-use crate::walk::Walked;
+use frames::list::Listing;
 use frames::scanner::Scanner;
 
 // What a call answers: how many frames are listed, the bytes taken of the piece and the bytes skipped in this call,
@@ -103,7 +103,7 @@ fn list_frames(
 }
 
 // Takes the piece as far as it was scanned, and holds what stands from where scanning stopped on.
-fn settle(held: &mut [u8], scanner: Scanner, piece: &[u8], found: Walked) -> FedAll
+fn settle(held: &mut [u8], scanner: Scanner, piece: &[u8], found: Listing) -> FedAll
     requires { ⌜ (scanner .count ≤ length (now held)) × (scanner .count ≤ scanner .taken) × (scanner .taken + length (now piece) < 2 ^ 64) × Within (length (now held)) (scanner .count) (length (now piece)) found ⌝ }
     ensures { λ r. ⌜ outcome (toldAll r) (now (held .exit)) ≡ settled found (known scanner) (take (scanner .count) (now (held .entry))) (now (piece .entry)) (now (held .entry)) ⌝ }
 {
@@ -125,7 +125,7 @@ fn settle(held: &mut [u8], scanner: Scanner, piece: &[u8], found: Walked) -> Fed
 }
 
 // The bytes of a piece of so many bytes that are taken behind so many held.
-fn taken_of(found: Walked, count: usize, piece: usize) -> usize
+fn taken_of(found: Listing, count: usize, piece: usize) -> usize
     ensures { λ r. ⌜ r ≡ takenOf (foundBy found) count piece ⌝ }
 {
     if !found.full {

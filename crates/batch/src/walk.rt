@@ -1,28 +1,20 @@
-// The walk from frame to frame, over the held bytes and the piece as one stream that is nowhere copied together.
+// The frames of the held bytes and the piece as one stream that is nowhere copied together: listed, those that start in
+// the held bytes copied to the seam, and their kinds told.
 ghost use mathlib.Core.Path.{_≡_};
 ghost use mathlib.Core.List.{_++_};
 ghost use mathlib.Core.Bool.{cond};
 ghost use Prim.Native.Nat.{_+_, _≤_, _<_};
 ghost use lib.Dec.{ltb};
 ghost use lib.ListN.{length, getD, take, drop};
-ghost use Rattle.bits.specs.Onto.{over};
+ghost use Rattle.bits.specs.Onto.{onto, over};
 ghost use Rattle.frames.specs.Framing.{decide};
 ghost use Rattle.frames.specs.Scan.{scan};
 ghost use Rattle.frames.specs.Modes.{framingOf};
-ghost use Rattle.batch.specs.Batch.{firstOf};
-ghost use Rattle.batch.specs.Steps.{kindNumberAt, walked, lists, Fit, Walks};
+ghost use Rattle.frames.specs.Listing.{firstOf};
+ghost use Rattle.batch.specs.Steps.{kindNumberAt, kindsAt, seamAt, lists, Fit, Fill, Walks};
 use crate::copy;
-use frames::scan;
-use frames::scan::Next;
-
-// What a walk comes to: how many frames are listed, the place where scanning stops, the bytes in the frames, and whether
-// the lists are full.
-pub(crate) struct Walked {
-    pub count: usize,
-    pub stop: usize,
-    pub framed: usize,
-    pub full: bool,
-}
+use frames::list;
+use frames::list::Listing;
 
 // Lists the frames of the held bytes with the piece behind them, until there are no more or the lists are full.
 pub(crate) fn walk(
@@ -33,41 +25,41 @@ pub(crate) fn walk(
     starts: &mut [u32],
     lengths: &mut [u32],
     kinds: &mut [u8],
-) -> Walked
+) -> Listing
     requires { ⌜ Fit (length (now held)) (length (now piece)) (lists (now seam) (now starts) (now lengths) (now kinds)) ⌝ }
     ensures { λ r. ⌜ Walks r (firstOf (length (now (starts .entry))) (scan (decide (framingOf mode)) (now (held .entry) ++ now (piece .entry)))) (length (now (held .entry))) (length (now (piece .entry))) (lists (now (seam .entry)) (now (starts .entry)) (now (lengths .entry)) (now (kinds .entry))) (lists (now (seam .exit)) (now (starts .exit)) (now (lengths .exit)) (now (kinds .exit))) ⌝ }
 {
-    let mut i: usize = 0;
-    let mut k: usize = 0;
-    let mut framed: usize = 0;
-    while k < starts.len() {
-        match scan::next_across(held, piece, i, mode) {
-            Next::Held(stop) => {
-                return ended(k, stop, framed, false);
-            }
-            Next::Frame { place, length } => {
-                copy_early(seam, held, piece, place, length);
-                starts[k] = place as u32;
-                lengths[k] = length as u32;
-                kinds[k] = kind_at(held, piece, place);
-                framed += length;
-                i = place + length;
-                k += 1;
-            }
-        }
-    }
-    ended(k, i, framed, true)
+    let found = list::frames_across(held, piece, mode, starts, lengths);
+    let n = found.count;
+    fill(held, piece, &starts[0..n], &lengths[0..n], seam, kinds);
+    found
 }
 
-fn ended(count: usize, stop: usize, framed: usize, full: bool) -> Walked
-    ensures { λ r. ⌜ r ≡ walked count stop framed full ⌝ }
+// Of each frame that is listed: copies it to the seam, if it starts in the held bytes, and writes the number of its kind.
+fn fill(
+    held: &[u8],
+    piece: &[u8],
+    starts: &[u32],
+    lengths: &[u32],
+    seam: &mut [u8],
+    kinds: &mut [u8],
+)
+    requires { ⌜ Fill (length (now held)) (length (now piece)) (now starts) (now lengths) (now seam) (now kinds) ⌝ }
+    ensures { λ _. ⌜ (now (seam .exit) ≡ seamAt (length (now (held .entry))) (now (held .entry) ++ now (piece .entry)) (now (starts .entry)) (now (lengths .entry)) (now (seam .entry))) × (now (kinds .exit) ≡ onto (kindsAt (now (held .entry) ++ now (piece .entry)) (now (starts .entry))) (now (kinds .entry))) ⌝ }
 {
-    Walked {
-        count,
-        stop,
-        framed,
-        full,
+    let mut k: usize = 0;
+    while k < starts.len() {
+        let place = size_of(starts[k]);
+        copy_early(seam, held, piece, place, size_of(lengths[k]));
+        kinds[k] = kind_at(held, piece, place);
+        k += 1;
     }
+}
+
+fn size_of(x: u32) -> usize
+    ensures { λ r. ⌜ r ≡ x ⌝ }
+{
+    x as usize
 }
 
 // Copies n bytes from place i on to the same place of the seam, if they start in the held bytes.
