@@ -144,11 +144,12 @@ fn write_faultless(
         return BlockWritten::TooMany(64);
     }
     let repeat = first_repeat(satellites, signals);
+    let bits = 6 + m * 11 + n * 19;
+    let fits = put::has_room(bytes.len(), start, bits);
     if repeat < n {
         return BlockWritten::Duplicate(repeat);
     }
-    let bits = 6 + m * 11 + n * 19;
-    if !put::has_room(bytes.len(), start, bits) {
+    if !fits {
         return BlockWritten::Room(bits);
     }
     let at = put::unsigned(bytes, start, 6, m as u64);

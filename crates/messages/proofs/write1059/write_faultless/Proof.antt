@@ -39,18 +39,18 @@ first-repeat-requires c κs = let d = c .before .before .before .before .before 
 
 returns-3 : tie.Need-returns-3
 returns-3 c =
-    let s = c .before .before .before .before .before .before .before .before .before .before .before .before .before .before .before in
+    let s = c .before .before .before .before .before .before .before .before .before .before .before .before .before .before .before .before in
     let a = s .args in
-    sound-repeat (a .bytes .now) (a .start) (a .satellites .now) (a .signals .now) (a .biases .now) (s .pre .1) _ _ _ (c .before .before .before .before .before .before .before .before .link .ensures) _ (c .before .before .before .before .before .before .first-crowded .ensures .0) (c .before .before .before .before .before .if1 .left) _ (c .before .before .before .present .ensures .0) (c .before .before .if2 .left)
-    _ (c .before .first-repeat .ensures (a .biases .now) (s .pre .1 .biases)) (c .if3 .taken)
+    sound-repeat (a .bytes .now) (a .start) (a .satellites .now) (a .signals .now) (a .biases .now) (s .pre .1) _ _ _ (c .before .before .before .before .before .before .before .before .before .link .ensures) _ (c .before .before .before .before .before .before .before .first-crowded .ensures .0) (c .before .before .before .before .before .before .if1 .left) _ (c .before .before .before .before .present .ensures .0) (c .before .before .before .if2 .left)
+    _ (c .before .before .first-repeat .ensures (a .biases .now) (s .pre .1 .biases)) (c .if3 .taken)
 
 returns-4 : tie.Need-returns-4
 returns-4 c =
     let s = c .before .before .before .before .before .before .before .before .before .before .before .before .before .before .before .before .before in
     let a = s .args in
     sound-room (a .bytes .now) (a .start) (a .satellites .now) (a .signals .now) (a .biases .now) (s .pre .1) _ _ _ (c .before .before .before .before .before .before .before .before .before .before .link .ensures) _ (c .before .before .before .before .before .before .before .before .first-crowded .ensures .0) (c .before .before .before .before .before .before .before .if1 .left) _ (c .before .before .before .before .before .present .ensures .0) (c .before .before .before .before .if2 .left)
-    _ (c .before .before .before .first-repeat .ensures (a .biases .now) (s .pre .1 .biases)) (c .before .before .if3 .left)
-    (leb-false _ _ (sym (c .before .has-room .ensures) ∙ not-true _ (c .if4 .taken)))
+    _ (c .before .before .before .first-repeat .ensures (a .biases .now) (s .pre .1 .biases)) (c .before .if3 .left)
+    (leb-false _ _ (sym (c .before .before .has-room .ensures) ∙ not-true _ (c .if4 .taken)))
 
 -- ---- where the block fits
 
@@ -65,7 +65,7 @@ abbrev records : tie.Else4 → List Rec1059
 records c = records1059 (start c .args .satellites .now) (start c .args .signals .now) (start c .args .biases .now)
 
 room : (c : tie.Else4) → start c .args .start + size c ≤ length (start c .args .bytes .now) * 8
-room c = leb-true _ _ (sym (c .before .has-room .ensures) ∙ not-false _ (c .if4 .left))
+room c = leb-true _ _ (sym (c .before .before .has-room .ensures) ∙ not-false _ (c .if4 .left))
 
 narrow : (c : tie.Else4) (i : ℕ) → i < 64 → getD (c .before .before .before .before .before .before .before .before .before .before .link .last .1 .1 .1 .0) i 0 < 32
 narrow c =
@@ -80,7 +80,7 @@ first-fits c =
     let a = s .args in
     sound-first (a .bytes .now) (a .start) (a .satellites .now) (a .signals .now) (a .biases .now) (s .pre .1) _ _ _
     (c .before .before .before .before .before .before .before .before .before .before .link .ensures) _ (c .before .before .before .before .before .before .before .before .first-crowded .ensures .0) (c .before .before .before .before .before .before .before .if1 .left) _ (c .before .before .before .before .before .present .ensures .0)
-    (c .before .before .before .before .if2 .left) _ (c .before .before .before .first-repeat .ensures (a .biases .now) (s .pre .1 .biases)) (c .before .before .if3 .left) (s .pre .0) (room c)
+    (c .before .before .before .before .if2 .left) _ (c .before .before .before .first-repeat .ensures (a .biases .now) (s .pre .1 .biases)) (c .before .if3 .left) (s .pre .0) (room c)
 
 -- t and q are the data and the place behind the satellite count
 module _ (c : tie.Else4) (t : List ℕ) (q : ℕ) (d : IsPut (start c .args .bytes .now) (start c .args .start) (bits 6 (c .before .before .before .before .before .present .result) ∷ []) t q) where
@@ -90,7 +90,7 @@ module _ (c : tie.Else4) (t : List ℕ) (q : ℕ) (d : IsPut (start c .args .byt
       let a = s .args in
       sound-rest (a .bytes .now) (a .start) (a .satellites .now) (a .signals .now) (a .biases .now) (s .pre .1) _ _ _
       (c .before .before .before .before .before .before .before .before .before .before .link .ensures) _ (c .before .before .before .before .before .before .before .before .first-crowded .ensures .0) (c .before .before .before .before .before .before .before .if1 .left) _ (c .before .before .before .before .before .present .ensures .0)
-      (c .before .before .before .before .if2 .left) _ (c .before .before .before .first-repeat .ensures (a .biases .now) (s .pre .1 .biases)) (c .before .before .if3 .left) (s .pre .0) (room c) t q d
+      (c .before .before .before .before .if2 .left) _ (c .before .before .before .first-repeat .ensures (a .biases .now) (s .pre .1 .biases)) (c .before .if3 .left) (s .pre .0) (room c) t q d
 
   written : (u : List ℕ) → u ≡ putAll t q (satellitesFrom 0 64 (records c))
       → outcome (Accepted (start c .args .start + size c)) u ≡ writeFaultless (start c .args .bytes .now) (start c .args .start) (records c)
@@ -99,7 +99,7 @@ module _ (c : tie.Else4) (t : List ℕ) (q : ℕ) (d : IsPut (start c .args .byt
       let a = s .args in
       sound-put (a .bytes .now) (a .start) (a .satellites .now) (a .signals .now) (a .biases .now) (s .pre .1) _ _ _
       (c .before .before .before .before .before .before .before .before .before .before .link .ensures) _ (c .before .before .before .before .before .before .before .before .first-crowded .ensures .0) (c .before .before .before .before .before .before .before .if1 .left) _ (c .before .before .before .before .before .present .ensures .0)
-      (c .before .before .before .before .if2 .left) _ (c .before .before .before .first-repeat .ensures (a .biases .now) (s .pre .1 .biases)) (c .before .before .if3 .left) (s .pre .0) (room c) t q d u e
+      (c .before .before .before .before .if2 .left) _ (c .before .before .before .first-repeat .ensures (a .biases .now) (s .pre .1 .biases)) (c .before .if3 .left) (s .pre .0) (room c) t q d u e
 
 unsigned-requires : tie.Need-unsigned-requires
 unsigned-requires c κs = (first-fits (c .before), omega arith, omega arith, omega (arith, c .before .before .before .before .before .before .present .ensures .1))
@@ -124,12 +124,12 @@ write-faultless-spec =
     (λ c κs. search needs)
     returns-2
     first-repeat-requires
-    returns-3
     (λ c. search needs)
     (λ c. search needs)
     (λ c. search needs)
     (λ c. search needs)
     (λ c κs. search needs)
+    returns-3
     returns-4
     unsigned-requires
     put-satellites-requires
