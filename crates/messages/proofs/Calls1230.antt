@@ -48,6 +48,11 @@ module _ (s : List ℕ) (p : ℕ) (b : List ℕ) (c : List ℤ) where
       let u = not-refused 9 [] (ltb 1023 (length s)) _ e in
       had-room (readBlock1230 s p) (length b) (not-refused 9 [] (not (eqb (length b) (length c))) _ (u .1) .1)
 
+  -- a block that a call read has at least its mask
+  pub ends-1230 : {n q : ℕ} → read1230 s p b c .answer ≡ Accepted (counted n q) → p + 4 ≤ q
+  unfolding read1230
+  ends-1230 h = omega (arith, block1230-extends s p (was-read (call-reads (b, c) (taken1230 s p b c) (filled1230 b c) (λ r. refl) h .is)) .end)
+
   pub written-back-1230 : {n q : ℕ} → read1230 s p b c .answer ≡ Accepted (counted n q) → (t : List ℕ) (r : ℕ) → length t ≤ 1023 → r + (q - p) ≤ length t * 8
       → WrittenBack s p q r (write1230 t r (take n (read1230 s p b c .areas .0)) (take n (read1230 s p b c .areas .1)))
   unfolding read1230

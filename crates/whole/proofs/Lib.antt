@@ -9,6 +9,7 @@ pub mod Write1059Laws
 pub mod Write1230Laws
 pub mod BesideLaws
 pub mod CallLaws
+pub mod RoundLaws
 pub mod KeepLaws
 pub mod OnlyLaws
 pub mod Calls1059

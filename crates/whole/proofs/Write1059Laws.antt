@@ -3,16 +3,15 @@ use mathlib.Core.Path.{_≡_, refl, sym, ap, _∙_}
 use mathlib.Core.Bool.{true, false}
 use mathlib.Core.List.{List, [], _∷_}
 use mathlib.Core.Logic.{⊎-elim}
-use Prim.Native.Nat.{ℕ, _+_, _*_, _≤_, _<_}
+use Prim.Native.Nat.{ℕ, _≤_, _<_}
 use native.Mathlib.Omega.{arith}
 use borrow.Author.Tests.{lt-ltb, le-ltb, eq-eqb, ne-eqb}
 use lib.ListN.{length}
 use lib.IntN.{ℤ}
 use types.Run.{OneOf}
 use denote.Enum.Declared.{tagOf}
-use Rattle.bits.specs.Told.{Told, Accepted, Refused, size, kind, range, room}
+use Rattle.bits.specs.Told.{Told, Accepted, size, kind, range, room}
 use Rattle.bits.specs.Outcome.{Outcome, outcome}
-use Rattle.bits.specs.Fields.{putAll}
 use Rattle.formats.specs.Put.{RoomFor, IsPut}
 use Rattle.messages.specs.Answers.{toldBlock}
 use Rattle.messages.specs.declared.answer.BlockWritten.{BlockWritten}
