@@ -5,7 +5,7 @@ use mathlib.Core.Logic.{inl, inr}
 use mathlib.Core.List.{List, _∷_}
 use Prim.Native.Nat.{ℕ, _+_, _*_, _^_, _≤_, _<_}
 use native.Mathlib.Omega.{arith}
-use borrow.Author.Tests.{eqb-true, eq-eqb, ne-eqb}
+use borrow.Author.Tests.{eqb-true, eq-eqb}
 use lib.ListN.{length}
 use lib.Dec.{eqb, lit≤}
 use Rattle.bits.specs.Told.{Told, Accepted, Refused, andThen, kind}
@@ -51,10 +51,6 @@ module _ {A : Type 0} (n : ℕ) (F : Format A) where
             };
         fit = λ a g. fit-next 12 n (F .fields a) small (f .fit a g);
       }
-
-  -- a message of another number is refused as such
-  pub another-kind : (s : List ℕ) (p : ℕ) → length s ≤ 1023 → p + 12 ≤ length s * 8 → (field s p 12 ≡ n → ⊥) → numbered n F .reads s p ≡ kind
-  another-kind s p few l other = rw (reads-value (λ v. v) s p 12 few (lit≤ tt) (lit≤ tt) l) (rw (ne-eqb (field s p 12) n other))
 
   cut-else : {B C : Type 0} (t : Told B) (g : B → Told C) → Cut t → ((b : B) → CutOrKind (g b)) → CutOrKind (andThen t g)
   cut-else (Accepted b) g c d = d b

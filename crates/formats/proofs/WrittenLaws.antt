@@ -81,6 +81,6 @@ onward-accepted before (Accepted a) onward e = (a, refl, e)
 onward-accepted before (Refused n carried) onward e = let d = ap (λ o. o .answer) e in let z : _≡_ {A = ℕ} 0 1 = cc in absurd (omega arith)
 
 -- a test that refuses was not met
-pub not-met : (b : Bool) (n : ℕ) (carried : List ℕ) {t : Told Unit} → cond b (Refused n carried) t ≡ Accepted tt → (b ≡ false) × (t ≡ Accepted tt)
-not-met true n carried e = let z : _≡_ {A = ℕ} 0 1 = cc in absurd (omega arith)
-not-met false n carried e = (refl, e)
+pub not-refused : {A : Type 0} (n : ℕ) (carried : List ℕ) (b : Bool) (t : Told A) {a : A} → cond b (Refused n carried) t ≡ Accepted a → (b ≡ false) × (t ≡ Accepted a)
+not-refused n carried true t e = let z : _≡_ {A = ℕ} 0 1 = cc in absurd (omega arith)
+not-refused n carried false t e = (refl, e)

@@ -1,6 +1,5 @@
 -- What an accepted answer tells of the steps that led to it. Assumes nothing.
-use mathlib.Core.Path.{_≡_, refl, sym, ap, _∙_}
-use mathlib.Core.Bool.{Bool, true, false, cond}
+use mathlib.Core.Path.{_≡_, sym, ap, _∙_}
 use mathlib.Core.List.{List, map}
 use Prim.Native.Nat.{ℕ, _+_, _*_, _≤_}
 use native.Mathlib.Omega.{arith}
@@ -12,18 +11,10 @@ use Rattle.bits.specs.Outcome.{Outcome, refusing}
 use Rattle.bits.specs.Onto.{onto}
 use Rattle.bits.specs.Field.{field, Reading, reading, readBy}
 use Rattle.bits.proofs.ReadLaws.{read-tells}
+use Rattle.formats.proofs.NextLaws.{then-accepted}
+use Rattle.formats.proofs.WrittenLaws.{not-refused}
 use Rattle.messages.specs.Reader.{asRecords, roomFor}
 use Rattle.messages.specs.Records.{Counted, counted}
-
--- a step that was accepted came behind one that was
-pub then-accepted : {A B : Type 0} (t : Told A) (f : A → Told B) {b : B} → andThen t f ≡ Accepted b → (a : A) × (t ≡ Accepted a) × (f a ≡ Accepted b)
-then-accepted (Accepted a) f e = (a, refl, e)
-then-accepted (Refused n carried) f e = let z : _≡_ {A = ℕ} 0 1 = cc in absurd (omega arith)
-
--- what could be refused here was not
-pub not-refused : {A : Type 0} (n : ℕ) (carried : List ℕ) (b : Bool) (t : Told A) {a : A} → cond b (Refused n carried) t ≡ Accepted a → (b ≡ false) × (t ≡ Accepted a)
-not-refused n carried true t e = let z : _≡_ {A = ℕ} 0 1 = cc in absurd (omega arith)
-not-refused n carried false t e = (refl, e)
 
 -- records that were read are those of a value that was
 pub read-as : {A B : Type 0} (flat : A → List B) (t : Told (Reading A)) {xs : List B} {q : ℕ} → asRecords flat t ≡ Accepted (reading xs q) → (a : A) × (t ≡ Accepted (reading a q)) × (flat a ≡ xs)

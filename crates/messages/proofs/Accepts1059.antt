@@ -11,12 +11,14 @@ use Rattle.bits.specs.Told.{Accepted, andThen, tooMany}
 use Rattle.bits.specs.Signed.{fitsTwos}
 use Rattle.bits.specs.Outcome.{outcome}
 use Rattle.bits.specs.Fields.{total, putAll}
+use Rattle.formats.specs.Written.{fine, firstFault}
+use Rattle.formats.proofs.NextLaws.{then-accepted}
+use Rattle.formats.proofs.WrittenLaws.{not-refused}
 use Rattle.messages.specs.Every.{Every}
 use Rattle.messages.specs.Records.{Rec1059, rec1059, satelliteOf, signalOf1059, biasOf1059, records1059}
 use Rattle.messages.specs.Signals1059.{isEdition, knownEdition, isSignal1059}
-use Rattle.messages.specs.Writer.{fine, firstFault, firstRepeat}
+use Rattle.messages.specs.Writer.{firstRepeat}
 use Rattle.messages.specs.Write1059.{fault1059, samePair, crowded, present, fields1059, refusedRecords1059, refused1059, write1059}
-use Rattle.messages.proofs.AcceptLaws.{then-accepted, not-refused}
 use Rattle.messages.proofs.WriterLaws.{run-put, run-accepted}
 
 -- ---- faults

@@ -10,10 +10,12 @@ use lib.Dec.{eqb, ltb}
 use Rattle.bits.specs.Told.{Accepted}
 use Rattle.bits.specs.Outcome.{outcome}
 use Rattle.bits.specs.Fields.{total, putAll}
+use Rattle.formats.specs.Written.{fine, firstFault}
+use Rattle.formats.proofs.NextLaws.{then-accepted}
+use Rattle.formats.proofs.WrittenLaws.{not-refused}
 use Rattle.messages.specs.Records.{records1230}
-use Rattle.messages.specs.Writer.{fine, firstFault, firstRepeat}
+use Rattle.messages.specs.Writer.{firstRepeat}
 use Rattle.messages.specs.Write1230.{fault1230, fields1230, refused1230, write1230}
-use Rattle.messages.proofs.AcceptLaws.{then-accepted, not-refused}
 use Rattle.messages.proofs.WriterLaws.{run-put, run-accepted}
 
 module _ (s : List ℕ) (p : ℕ) (gs : List ℕ) (zs : List ℤ) where

@@ -17,7 +17,8 @@ use Rattle.messages.specs.Layout1059.{Sat, flat1059}
 use Rattle.messages.specs.Satellites1059.{satellites1059, Regular}
 use Rattle.messages.specs.InOrder.{inOrder1059}
 use Rattle.formats.specs.WrittenBack.{WrittenBack}
-use Rattle.messages.proofs.AcceptLaws.{not-refused, had-room, call-reads, first-places}
+use Rattle.formats.proofs.WrittenLaws.{not-refused}
+use Rattle.messages.proofs.AcceptLaws.{had-room, call-reads, first-places}
 use Rattle.messages.proofs.Accepts1059.{call-accepted}
 use Rattle.messages.proofs.EveryLaws.{every-weak}
 use Rattle.messages.proofs.InOrderLaws.{in-order-1059, length-records}

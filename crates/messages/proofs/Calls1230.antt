@@ -17,7 +17,8 @@ use Rattle.messages.specs.Read1230.{readBlock1230, filled1230, taken1230
 use Rattle.messages.specs.Write1230.{fields1230, write1230}
 use Rattle.messages.specs.InOrder.{inOrder1230}
 use Rattle.formats.specs.WrittenBack.{WrittenBack}
-use Rattle.messages.proofs.AcceptLaws.{not-refused, had-room, call-reads, first-places}
+use Rattle.formats.proofs.WrittenLaws.{not-refused}
+use Rattle.messages.proofs.AcceptLaws.{had-room, call-reads, first-places}
 use Rattle.messages.proofs.Accepts1230.{call-accepted, call-written}
 use Rattle.messages.proofs.ExtentLaws.{block1230-extends}
 use Rattle.messages.proofs.Fields1230Laws.{bits-is}

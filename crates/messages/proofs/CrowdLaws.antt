@@ -12,8 +12,8 @@ use lib.Seq.{drop-cons}
 use Rattle.bits.specs.Told.{Told, tooMany}
 use Rattle.bits.specs.Fields.{total}
 use Rattle.bits.proofs.FieldsLaws.{total-next}
+use Rattle.formats.specs.Written.{fine}
 use Rattle.messages.specs.Every.{Every}
-use Rattle.messages.specs.Writer.{fine}
 use Rattle.messages.specs.Records.{Rec1059, satelliteOf}
 use Rattle.messages.specs.Layout1059.{ofSatellite, grouped1059}
 use Rattle.messages.specs.Write1059.{crowded, present, fields1059}

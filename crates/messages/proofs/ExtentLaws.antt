@@ -14,13 +14,13 @@ use Rattle.bits.specs.Fields.{total}
 use Rattle.bits.specs.Signed.{fitsUnsigned}
 use Rattle.bits.proofs.FieldsLaws.{total-next, holds-first}
 use Rattle.formats.specs.Format.{twos, fieldsEach}
-use Rattle.formats.proofs.NextLaws.{both-true}
+use Rattle.formats.proofs.NextLaws.{both-true, then-accepted}
 use Rattle.messages.specs.Records.{Rec1059, Rec1230, biasOf1230}
 use Rattle.messages.specs.Layout1059.{satellite1059, block1059, flat1059}
 use Rattle.messages.specs.Layout1230.{block1230, maskSignals, masked, flat1230}
 use Rattle.messages.specs.Read1059.{readBlock1059}
 use Rattle.messages.specs.Read1230.{readBlock1230}
-use Rattle.messages.proofs.AcceptLaws.{then-accepted, read-as, field-accepted}
+use Rattle.messages.proofs.AcceptLaws.{read-as, field-accepted}
 use Rattle.messages.proofs.RecordLaws.{parts1230}
 use Rattle.messages.proofs.Layout1059Laws.{block-good as good1059}
 use Rattle.messages.proofs.Layout1230Laws.{block-good as good1230}
@@ -87,6 +87,3 @@ block1230-extends s p {r} e =
     let b = block1230-tells (a .0 .0) (a .0 .1) (x .fitting) in
     let n : length (r .value) ≡ length (a .0 .1) = ap length (sym (a .2)) ∙ sym (length-map (flat1230 (a .0)) biasOf1230) ∙ ap length (parts1230 _ _ (sym (b .count)) .1) in
     record { end = omega (arith, x .ends, b .bits, n); few = omega (arith, n, b .few); within = x .within (omega (arith, b .bits)) }
-
-pub suffices-1230 : (s : List ℕ) (p : ℕ) {r : Reading (List Rec1230)} → readBlock1230 s p ≡ Accepted r → length (r .value) ≤ 4
-suffices-1230 s p e = block1230-extends s p e .few

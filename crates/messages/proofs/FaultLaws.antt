@@ -11,11 +11,11 @@ use lib.ListN.{length, getD}
 use lib.IntN.{ℤ, pos}
 use Rattle.bits.specs.Told.{Told, andThen, satellite, signal, range}
 use Rattle.bits.specs.Signed.{fitsTwos}
+use Rattle.formats.specs.Written.{fine, firstFault}
 use Rattle.messages.specs.Every.{Every}
 use Rattle.messages.specs.Signals1059.{signals1059}
 use Rattle.messages.specs.StepsColumns.{maskOf, inMask}
 use Rattle.messages.specs.Records.{Rec1059, rec1059, records1059}
-use Rattle.messages.specs.Writer.{fine, firstFault}
 use Rattle.messages.specs.Write1059.{fault1059}
 use Rattle.messages.specs.StepsWrite1059.{faultBy, Faultless}
 use Rattle.messages.proofs.Signals1059Laws.{mask-tells, signal-fits}

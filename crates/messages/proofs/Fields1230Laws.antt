@@ -15,10 +15,11 @@ use Rattle.bits.specs.Fields.{bits, total}
 use Rattle.bits.proofs.FieldsLaws.{total-one, total-next}
 use Rattle.formats.specs.Format.{twos}
 use Rattle.formats.proofs.TimesLaws.{fields-none, fields-next, total-each}
+use Rattle.formats.specs.Written.{fine, firstFault}
 use Rattle.messages.specs.Every.{gather}
 use Rattle.messages.specs.Records.{Rec1230, rec1230, signalOf1230, records1230}
 use Rattle.messages.specs.Layout1230.{maskSignals, ofSignal, maskOf}
-use Rattle.messages.specs.Writer.{fine, keep, firstFault}
+use Rattle.messages.specs.Writer.{keep}
 use Rattle.messages.specs.Write1230.{isIn, fault1230, fields1230}
 use Rattle.messages.specs.StepsWrite1230.{biasFields1230}
 use Rattle.messages.proofs.Layout1230Laws.{fields-laid}

@@ -15,13 +15,14 @@ use Rattle.formats.specs.Format.{fitEach, fieldsEach}
 use Rattle.formats.proofs.NextLaws.{both-true, true-both}
 use Rattle.formats.proofs.TimesLaws.{fields-none, fields-next, total-each, fit-each, fit-each-none, each-fits}
 use Rattle.formats.proofs.ShapedLaws.{counted-fits, fits-counted}
+use Rattle.formats.specs.Written.{fine}
+use Rattle.formats.proofs.WrittenLaws.{not-refused}
 use Rattle.messages.specs.Every.{Every, gather}
 use Rattle.messages.specs.Records.{Rec1059, rec1059, signalOf1059}
-use Rattle.messages.specs.Writer.{fine, keep}
+use Rattle.messages.specs.Writer.{keep}
 use Rattle.messages.specs.Signals1059.{isSignal1059}
 use Rattle.messages.specs.Layout1059.{bias1059, satellite1059, block1059, Sat, ofBias, ofSat, flat1059, ofSatellite, biasOf, withSome, groupedFrom, grouped1059}
 use Rattle.messages.specs.Write1059.{crowded, present}
-use Rattle.messages.proofs.AcceptLaws.{not-refused}
 use Rattle.messages.proofs.EveryLaws.{every-join, every-split}
 use Rattle.messages.proofs.Accepts1059.{Writable, Fine}
 use Rattle.messages.proofs.Layout1059Laws.{same-count}

@@ -14,9 +14,10 @@ use lib.ListN.{length, getD, set, replicate, getD-replicate}
 use lib.Seq.{getD-set-same, getD-set-other}
 use lib.IntN.{ℤ, pos}
 use Rattle.bits.specs.Told.{duplicate}
+use Rattle.formats.specs.Written.{fine}
 use Rattle.messages.specs.Records.{Rec1059, rec1059, records1059}
 use Rattle.messages.specs.StepsColumns.{inMask}
-use Rattle.messages.specs.Writer.{fine, isAmong, firstRepeat}
+use Rattle.messages.specs.Writer.{isAmong, firstRepeat}
 use Rattle.messages.specs.Write1059.{samePair}
 use Rattle.messages.proofs.TestLaws.{below, below-place}
 use Rattle.messages.proofs.RecordLaws.{from1059, next1059, end1059}

@@ -13,14 +13,14 @@ use Rattle.bits.specs.Outcome.{refusing}
 use Rattle.bits.specs.Field.{Reading}
 use Rattle.formats.specs.Faithful.{Cut}
 use Rattle.messages.specs.Reader.{roomFor}
-use Rattle.messages.specs.Records.{Rec1059, Rec1230}
+use Rattle.messages.specs.Records.{Rec1059}
 use Rattle.messages.specs.Layout1059.{block1059}
 use Rattle.messages.specs.Layout1230.{block1230}
 use Rattle.messages.specs.Read1059.{readBlock1059, filled1059, read1059}
-use Rattle.messages.specs.Read1230.{readBlock1230, filled1230, read1230}
+use Rattle.messages.specs.Read1230.{readBlock1230}
 use Rattle.messages.proofs.Layout1059Laws.{block-good as good1059}
 use Rattle.messages.proofs.Layout1230Laws.{block-good as good1230}
-use Rattle.messages.proofs.ExtentLaws.{suffices-1059, suffices-1230}
+use Rattle.messages.proofs.ExtentLaws.{suffices-1059}
 
 -- ---- Short alone
 
@@ -75,16 +75,5 @@ module _ (s : List ℕ) (p : ℕ) where
       roomy (readBlock1059 s p) 422 (length sats) (short1059 s (ltb-false 1023 (length s) (a .0)) p) (λ r f. suffices-1059 s p f) h (c .1)
     where
       told : (t : Told (Reading (List Rec1059))) → refusing (sats, gs, zs) t (filled1059 sats gs zs) .answer ≡ room m → t ≡ room m
-      told (Accepted r) e = let z : _≡_ {A = ℕ} 0 1 = cc in absurd (omega arith)
-      told (Refused n carried) e = cc
-
-  pub never-room1230 : (gs : List ℕ) (zs : List ℤ) → 4 ≤ length gs → {m : ℕ} → read1230 s p gs zs .answer ≡ room m → ⊥
-  unfolding read1230
-  never-room1230 gs zs h {m} e =
-      let a = not-size (ltb 1023 (length s)) _ (told _ e) in
-      let b = not-size (not (eqb (length gs) (length zs))) _ (a .1) in
-      roomy (readBlock1230 s p) 4 (length gs) (short1230 s (ltb-false 1023 (length s) (a .0)) p) (λ r f. suffices-1230 s p f) h (b .1)
-    where
-      told : (t : Told (Reading (List Rec1230))) → refusing (gs, zs) t (filled1230 gs zs) .answer ≡ room m → t ≡ room m
       told (Accepted r) e = let z : _≡_ {A = ℕ} 0 1 = cc in absurd (omega arith)
       told (Refused n carried) e = cc

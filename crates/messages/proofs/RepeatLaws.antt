@@ -11,11 +11,12 @@ use lib.Seq.{drop-cons}
 use lib.IntN.{ℤ}
 use lib.Dec.{eqb}
 use Rattle.bits.specs.Told.{duplicate}
+use Rattle.formats.specs.Written.{fine}
+use Rattle.formats.proofs.WrittenLaws.{not-refused}
 use Rattle.messages.specs.Records.{records1230}
-use Rattle.messages.specs.Writer.{fine, isAmong, firstRepeat, keep}
+use Rattle.messages.specs.Writer.{isAmong, firstRepeat, keep}
 use Rattle.messages.specs.Write1230.{isIn}
 use Rattle.messages.specs.Layout1230.{ofSignal}
-use Rattle.messages.proofs.AcceptLaws.{not-refused}
 
 -- ---- along a list, one by one
 

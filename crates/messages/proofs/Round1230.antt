@@ -14,19 +14,20 @@ use Rattle.bits.specs.Field.{reading}
 use Rattle.bits.specs.Signed.{fitsUnsigned}
 use Rattle.formats.specs.Format.{twos, fitEach}
 use Rattle.formats.specs.WrittenBack.{WrittenBack}
-use Rattle.formats.proofs.NextLaws.{true-both}
+use Rattle.formats.proofs.NextLaws.{true-both, then-accepted}
 use Rattle.formats.proofs.TimesLaws.{fit-each, fit-each-none, fit-each-append}
 use Rattle.formats.proofs.UseLaws.{call-reads-back, call-writes-back}
+use Rattle.formats.specs.Written.{fine, firstFault}
 use Rattle.messages.specs.I16.{OfI16}
 use Rattle.messages.specs.Every.{gather}
 use Rattle.messages.specs.Records.{Rec1230, rec1230, signalOf1230, biasOf1230, records1230}
 use Rattle.messages.specs.Layout1230.{block1230, maskSignals, masked, flat1230, ofSignal, maskOf, grouped1230}
 use Rattle.messages.specs.Read1230.{readBlock1230}
-use Rattle.messages.specs.Writer.{fine, firstFault, firstRepeat, isAmong, keep}
+use Rattle.messages.specs.Writer.{firstRepeat, isAmong, keep}
 use Rattle.messages.specs.Write1230.{isIn, fault1230, fields1230, write1230}
 use Rattle.messages.specs.InOrder.{inOrder1230}
 use Rattle.messages.proofs.TestLaws.{left, right, below, below-place}
-use Rattle.messages.proofs.AcceptLaws.{then-accepted, read-as}
+use Rattle.messages.proofs.AcceptLaws.{read-as}
 use Rattle.messages.proofs.I16Laws.{all-fit}
 use Rattle.messages.proofs.RecordLaws.{parts1230, columns1230}
 use Rattle.messages.proofs.Layout1230Laws.{block-good}

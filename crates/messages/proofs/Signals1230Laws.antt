@@ -11,8 +11,9 @@ use lib.Dec.{T, eqb}
 use lib.ListN.{length, getD, take, drop, drop-of-length-le}
 use lib.Seq.{drop-cons, take-suc}
 use Rattle.bits.specs.Told.{Told, andThen, signal}
+use Rattle.formats.specs.Written.{fine, firstFault}
 use Rattle.messages.specs.Layout1230.{maskSignals}
-use Rattle.messages.specs.Writer.{fine, firstFault, isAmong}
+use Rattle.messages.specs.Writer.{isAmong}
 use Rattle.messages.specs.Write1230.{isIn, fault1230}
 use Rattle.messages.proofs.RepeatLaws.{seenAt}
 

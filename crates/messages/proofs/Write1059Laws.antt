@@ -13,12 +13,13 @@ use Rattle.bits.specs.Outcome.{outcome}
 use Rattle.bits.specs.Fields.{bits, total, putAll}
 use Rattle.messages.specs.Records.{Rec1059, records1059}
 use Rattle.messages.specs.Signals1059.{isEdition, knownEdition}
-use Rattle.messages.specs.Writer.{fine, firstFault, firstRepeat, writeRun}
+use Rattle.messages.specs.Writer.{firstRepeat, writeRun}
 use Rattle.messages.specs.Write1059.{fault1059, samePair, crowded, present, fields1059, refusedRecords1059, refused1059, write1059}
 use Rattle.messages.specs.Layout1059.{ofSatellite}
 use Rattle.messages.specs.StepsWrite1059.{satellitesFrom, refusedFaultless, writeFaultless, writeKnown, Faultless, Linked, crowdedIn, presentIn}
 use Rattle.formats.specs.Put.{RoomFor, IsPut}
 use Rattle.formats.proofs.PutLaws.{Left, left-all, left-as, left-fits, left-put, left-none}
+use Rattle.formats.specs.Written.{fine, firstFault}
 use Rattle.messages.proofs.WriterLaws.{run-refused, run-put, run-room}
 use Rattle.messages.proofs.LinkLaws.{count-records}
 use Rattle.messages.proofs.Layout1059Laws.{fields-laid}

@@ -12,8 +12,9 @@ use Rattle.bits.specs.Told.{Accepted, Refused, andThen, size, signal, duplicate
 use Rattle.bits.specs.Outcome.{outcome}
 use Rattle.bits.specs.Fields.{putAll}
 use Rattle.formats.specs.Put.{RoomFor}
+use Rattle.formats.specs.Written.{fine, firstFault}
 use Rattle.messages.specs.Records.{records1230}
-use Rattle.messages.specs.Writer.{fine, firstFault, firstRepeat}
+use Rattle.messages.specs.Writer.{firstRepeat}
 use Rattle.messages.specs.Write1230.{fault1230, fields1230, refused1230, write1230}
 use Rattle.messages.proofs.WriterLaws.{run-refused, run-put, run-room}
 use Rattle.messages.proofs.Fields1230Laws.{bits-is}

@@ -1,21 +1,21 @@
 -- A call that writes a run of fields: which answer it gives, and what it leaves as it was. Assumes nothing.
-use mathlib.Core.Path.{_≡_, refl, sym}
+use mathlib.Core.Path.{_≡_, refl, sym, ap}
 use mathlib.Core.Bool.{Bool, true, false}
 use mathlib.Core.Logic.{_⊎_}
-use mathlib.Core.List.{List, [], _∷_}
+use mathlib.Core.List.{List}
 use Prim.Native.Nat.{ℕ, _+_, _*_, _≤_, _<_}
-use native.Mathlib.Omega.{arith}
-use borrow.Author.Tests.{ltb-true, ltb-false, lt-ltb, le-ltb}
+use borrow.Author.Tests.{ltb-true, ltb-false}
 use lib.ListN.{length}
 use lib.Dec.{ltb}
-use Rattle.bits.specs.Told.{Told, Accepted, Refused, andThen, room}
-use Rattle.bits.specs.Outcome.{Outcome, outcome, refusing}
+use Rattle.bits.specs.Told.{Told, Accepted, Refused, room}
+use Rattle.bits.specs.Outcome.{Outcome, outcome}
 use Rattle.bits.specs.Field.{bitAt}
 use Rattle.bits.specs.Fields.{Field, total, putAll, Bytes}
-use Rattle.bits.proofs.OutcomeLaws.{Keeps, writing-keeps}
+use Rattle.bits.proofs.OutcomeLaws.{Keeps, refusing-keeps}
 use Rattle.bits.proofs.FieldsLaws.{length-put-all, put-all-outside, bytes-put-all}
-use Rattle.messages.specs.Writer.{fine, runEnd, writeRun}
-use Rattle.messages.proofs.AcceptLaws.{then-accepted, not-refused}
+use Rattle.formats.specs.Written.{fine, putRun}
+use Rattle.formats.proofs.WrittenLaws.{onward-accepted, run-room as lacks-room, run-put as is-put, run-accepted as was-put, run-keeps as put-keeps}
+use Rattle.messages.specs.Writer.{writeRun}
 
 -- what a call that writes into s from bit p on leaves of it: its length, bytes, and the bits outside the block
 pub record Leaves (s : List ℕ) (p : ℕ) (call : Outcome ℕ (List ℕ)) : Type 0 where
@@ -29,28 +29,24 @@ module _ (refused : Told Unit) (s : List ℕ) (p : ℕ) (fs : List Field) where
   run-refused e = rw e
 
   pub run-room : refused ≡ fine → length s * 8 < p + total fs → outcome (room (total fs)) s ≡ writeRun refused s p fs
-  unfolding writeRun runEnd
-  run-room e h = rw (e, lt-ltb (length s * 8) (p + total fs) h)
+  unfolding writeRun
+  run-room e h = rw e (sym (lacks-room s p fs h))
 
   pub run-put : refused ≡ fine → p + total fs ≤ length s * 8 → writeRun refused s p fs ≡ outcome (Accepted (p + total fs)) (putAll s p fs)
-  unfolding writeRun runEnd
-  run-put e h = rw (e, le-ltb (length s * 8) (p + total fs) h)
-
-  answer-is : (t : Told ℕ) {q : ℕ} → refusing s t (λ q. outcome (Accepted q) (putAll s p fs)) .answer ≡ Accepted q → t ≡ Accepted q
-  answer-is (Accepted q) e = e
-  answer-is (Refused n carried) e = let z : _≡_ {A = ℕ} 0 1 = cc in absurd (omega arith)
+  unfolding writeRun
+  run-put e h = rw e (is-put s p fs h)
 
   -- an accepted call was refused nothing, and the data reach so far
   pub run-accepted : {q : ℕ} → writeRun refused s p fs .answer ≡ Accepted q → (refused ≡ fine) × (p + total fs ≤ length s * 8)
-  unfolding writeRun runEnd
+  unfolding writeRun
   run-accepted h =
-      let t = then-accepted refused (λ u. runEnd s p fs) (answer-is _ h) in
-      (t .1, ltb-false (length s * 8) (p + total fs) (not-refused 8 (total fs ∷ []) (ltb (length s * 8) (p + total fs)) _ (t .2) .0))
+      let a = onward-accepted s refused (λ u. putRun s p fs) (ap (λ (t : Told ℕ). outcome t (writeRun refused s p fs .areas)) h) in
+      (a .1, was-put s p fs (a .2) .within)
 
   -- a refused call writes nothing
   pub run-keeps : Keeps s (writeRun refused s p fs)
   unfolding writeRun
-  run-keeps = writing-keeps s (andThen refused (λ u. runEnd s p fs)) (λ q. putAll s p fs)
+  run-keeps = refusing-keeps s refused (λ u. putRun s p fs) (λ u. put-keeps s p fs)
 
   pub run-leaves : Leaves s p (writeRun refused s p fs)
   run-leaves = go refused refl (ltb (length s * 8) (p + total fs)) refl

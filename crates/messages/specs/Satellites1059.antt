@@ -6,10 +6,11 @@ use Prim.Native.Nat.{ℕ, suc, _≤_}
 use lib.ListN.{length}
 use Rattle.bits.specs.Told.{Told}
 use Rattle.bits.specs.Field.{Reading}
+use Rattle.formats.specs.Written.{fine}
 use Rattle.messages.specs.Every.{Every}
 use Rattle.messages.specs.Records.{signalOf1059}
 use Rattle.messages.specs.Layout1059.{Sat, block1059, flat1059}
-use Rattle.messages.specs.Writer.{fine, firstRepeat}
+use Rattle.messages.specs.Writer.{firstRepeat}
 use Rattle.messages.specs.Write1059.{samePair}
 use Rattle.messages.specs.Signals1059.{isEdition, isSignal1059}
 

@@ -11,8 +11,9 @@ use Rattle.bits.specs.Signed.{fitsTwos}
 use Rattle.bits.specs.Fields.{Field}
 use Rattle.bits.specs.Outcome.{Outcome}
 use Rattle.formats.specs.Format.{fieldsEach}
+use Rattle.formats.specs.Written.{fine}
 use Rattle.messages.specs.StepsColumns.{inMask}
-use Rattle.messages.specs.Writer.{fine, firstRepeat, writeRun}
+use Rattle.messages.specs.Writer.{firstRepeat, writeRun}
 use Rattle.messages.specs.Layout1059.{bias1059, satellite1059, biasOf, withSome, groupedFrom}
 use Rattle.messages.specs.Records.{Rec1059, rec1059, records1059}
 use Rattle.messages.specs.Write1059.{crowded, present, samePair, fields1059, refused1059}

@@ -9,8 +9,9 @@ use Rattle.bits.specs.Told.{Told, andThen, size, satellite, signal, range, tooM
 use Rattle.bits.specs.Signed.{fitsTwos}
 use Rattle.bits.specs.Outcome.{Outcome}
 use Rattle.bits.specs.Fields.{Field}
+use Rattle.formats.specs.Written.{fine, firstFault}
 use Rattle.messages.specs.Signals1059.{knownEdition, isSignal1059}
-use Rattle.messages.specs.Writer.{fine, firstFault, firstRepeat, writeRun}
+use Rattle.messages.specs.Writer.{firstRepeat, writeRun}
 use Rattle.messages.specs.Layout1059.{block1059, ofSatellite, grouped1059}
 use Rattle.messages.specs.Records.{Rec1059, rec1059, records1059}
 

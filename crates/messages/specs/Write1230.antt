@@ -8,9 +8,10 @@ use lib.Dec.{eqb, ltb}
 use Rattle.bits.specs.Told.{Told, andThen, size, signal}
 use Rattle.bits.specs.Outcome.{Outcome}
 use Rattle.bits.specs.Fields.{Field}
+use Rattle.formats.specs.Written.{fine, firstFault}
 use Rattle.messages.specs.Records.{Rec1230, records1230}
 use Rattle.messages.specs.Layout1230.{maskSignals, block1230, grouped1230}
-use Rattle.messages.specs.Writer.{fine, firstFault, isAmong, firstRepeat, writeRun}
+use Rattle.messages.specs.Writer.{isAmong, firstRepeat, writeRun}
 
 -- k is in the list
 abbrev pub isIn : ℕ → List ℕ → Bool

@@ -1,21 +1,11 @@
--- Writers of records: what they refuse first, and a run of fields put where the data reaches so far. Assumes nothing.
+-- Writers of blocks: a record that stands twice, and a run of fields behind what is refused. Assumes nothing.
 use mathlib.Core.Bool.{Bool, true, false, cond}
 use mathlib.Core.List.{List, [], _∷_}
-use Prim.Native.Nat.{ℕ, suc, _+_, _*_}
-use lib.ListN.{length}
-use lib.Dec.{ltb}
-use Rattle.bits.specs.Told.{Told, Accepted, andThen, duplicate, room}
-use Rattle.bits.specs.Outcome.{Outcome, outcome, refusing}
-use Rattle.bits.specs.Fields.{Field, total, putAll}
-
--- nothing is refused
-abbrev pub fine : Told Unit
-fine = Accepted tt
-
--- the first fault of records, of which the first has index i
-unfoldable pub firstFault : {A : Type 0} → (ℕ → A → Told Unit) → ℕ → List A → Told Unit
-firstFault fault i [] = fine
-firstFault fault i (r ∷ rs) = andThen (fault i r) (λ u. firstFault fault (suc i) rs)
+use Prim.Native.Nat.{ℕ, suc}
+use Rattle.bits.specs.Told.{Told, duplicate}
+use Rattle.bits.specs.Outcome.{Outcome, refusing}
+use Rattle.bits.specs.Fields.{Field}
+use Rattle.formats.specs.Written.{fine, putRun}
 
 -- one of the list is the same as k
 unfoldable pub isAmong : {K : Type 0} → (K → K → Bool) → K → List K → Bool
@@ -32,11 +22,6 @@ abbrev pub keep : {A : Type 0} → Bool → A → List A → List A
 keep true r rs = r ∷ rs
 keep false r rs = rs
 
--- Room with the bits of a run, where the data does not reach so far from bit p on; else the end bit
-unfoldable pub runEnd : List ℕ → ℕ → List Field → Told ℕ
-runEnd s p fs = cond (ltb (length s * 8) (p + total fs)) (room (total fs)) (Accepted (p + total fs))
-
 -- a call that writes a run of fields from bit p on: what is refused before, then Room; a refusal leaves the data as they came
 unfoldable pub writeRun : Told Unit → List ℕ → ℕ → List Field → Outcome ℕ (List ℕ)
-writeRun refused s p fs =
-    refusing s (andThen refused (λ u. runEnd s p fs)) (λ q. outcome (Accepted q) (putAll s p fs))
+writeRun refused s p fs = refusing s refused (λ u. putRun s p fs)

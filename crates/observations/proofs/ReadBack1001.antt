@@ -17,7 +17,7 @@ use Rattle.bits.specs.Onto.{onto}
 use Rattle.bits.proofs.FieldsLaws.{length-put-all}
 use Rattle.formats.specs.Written.{fine, firstFault, putRun}
 use Rattle.formats.proofs.UseLaws.{written-reads}
-use Rattle.formats.proofs.WrittenLaws.{onward-accepted, not-met, run-accepted}
+use Rattle.formats.proofs.WrittenLaws.{onward-accepted, not-refused, run-accepted}
 use Rattle.observations.specs.declared.answer.Header.{Header}
 use Rattle.observations.specs.declared.answer.Observation.{Observation}
 use Rattle.observations.specs.Message1001.{message, message1001, headerFits}
@@ -79,13 +79,13 @@ module _ (s : List ℕ) (h : Header) (l : Lists) where
   unfolding write1001 sizes
   wrote e =
       let a = onward-accepted s (sizes s l) _ e in
-      let z = not-met (ltb 1023 (length s)) 9 [] (a .1) in
-      let y = not-met (not (even l)) 9 [] (z .1) in
+      let z = not-refused 9 [] (ltb 1023 (length s)) _ (a .1) in
+      let y = not-refused 9 [] (not (even l)) _ (z .1) in
       let b = onward-accepted s (cond (not (headerFits h)) (range 0) fine) _ (a .2) in
-      let x = not-met (not (headerFits h)) 3 (0 ∷ []) (b .1) in
+      let x = not-refused 3 (0 ∷ []) (not (headerFits h)) _ (b .1) in
       let c = onward-accepted s (firstFault fault1001 0 (rows l)) _ (b .2) in
       let d = onward-accepted s (cond (ltb 31 (places l)) (tooMany 32) fine) _ (c .2) in
-      let w = not-met (ltb 31 (places l)) 6 (32 ∷ []) (d .1) in
+      let w = not-refused 6 (32 ∷ []) (ltb 31 (places l)) _ (d .1) in
       record {
         few = ltb-false 1023 (length s) (z .0);
         same = is-true (even l) (y .0);

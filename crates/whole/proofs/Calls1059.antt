@@ -21,7 +21,7 @@ use Rattle.messages.specs.Signals1059.{isEdition}
 use Rattle.messages.specs.Write1059.{write1059, fields1059 as blockFields}
 use Rattle.messages.specs.InOrder.{inOrder1059}
 use Rattle.formats.specs.WrittenBack.{WrittenBack}
-use Rattle.messages.proofs.AcceptLaws.{not-refused}
+use Rattle.formats.proofs.WrittenLaws.{not-refused}
 use Rattle.messages.proofs.Accepts1059 as block
 use Rattle.messages.proofs.Calls1059.{reads-back-1059, written-back-1059}
 use Rattle.messages.proofs.KeepLaws.{leaves-1059}

@@ -19,7 +19,7 @@ use Rattle.messages.specs.Read1230.{read1230}
 use Rattle.messages.specs.Write1230.{write1230, fields1230 as blockFields}
 use Rattle.messages.specs.InOrder.{inOrder1230}
 use Rattle.formats.specs.WrittenBack.{WrittenBack}
-use Rattle.messages.proofs.AcceptLaws.{not-refused}
+use Rattle.formats.proofs.WrittenLaws.{not-refused}
 use Rattle.messages.proofs.Accepts1230 as block
 use Rattle.messages.proofs.Calls1230.{reads-back-1230, ends-1230, written-back-1230}
 use Rattle.messages.proofs.KeepLaws.{leaves-1230}

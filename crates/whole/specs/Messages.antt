@@ -7,10 +7,10 @@ use lib.IntN.{ℤ}
 use lib.Dec.{eqb, ltb}
 use Rattle.bits.specs.Told.{Told, size, range, kind}
 use Rattle.bits.specs.Outcome.{Outcome, outcome, refusing}
+use Rattle.formats.specs.Written.{fine}
 use Rattle.messages.specs.Read1059.{read1059}
 use Rattle.messages.specs.Read1230.{read1230}
 use Rattle.messages.specs.Signals1059.{isEdition}
-use Rattle.messages.specs.Writer.{fine}
 use Rattle.messages.specs.Write1059.{write1059}
 use Rattle.messages.specs.Write1230.{write1230}
 use Rattle.whole.specs.declared.answer.Header1059.{Header1059}

@@ -7,8 +7,8 @@ use lib.IntN.{pos}
 use borrow.Author.Needs.{needs}
 use borrow.Author.Tests.{not-true, not-false}
 use Rattle.bits.specs.Signed.{fitsTwos}
+use Rattle.formats.specs.Written.{firstFault}
 use Rattle.messages.specs.Records.{records1059}
-use Rattle.messages.specs.Writer.{firstFault}
 use Rattle.messages.specs.StepsWrite1059.{faultBy}
 use Rattle.messages.proofs.I16Laws.{same-16}
 use Rattle.messages.proofs.RecordLaws.{from1059}

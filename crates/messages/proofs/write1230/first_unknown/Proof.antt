@@ -5,7 +5,7 @@ use native.Mathlib.Omega.{arith}
 use borrow.Author.Needs.{needs}
 use borrow.Author.Tests.{lt-ltb, le-ltb, not-true, not-false}
 use lib.ListN.{length, drop}
-use Rattle.messages.specs.Writer.{firstFault}
+use Rattle.formats.specs.Written.{firstFault}
 use Rattle.messages.specs.Write1230.{fault1230}
 use Rattle.messages.proofs.Signals1230Laws.{unknown-here, known-here, none-unknown}
 use Rattle.messages.proofs.write1230.first_unknown.Statement.{statement}
