@@ -14,6 +14,7 @@ use Rattle.bits.specs.Fields.{total}
 use Rattle.bits.specs.Signed.{fitsUnsigned}
 use Rattle.bits.proofs.FieldsLaws.{total-next, holds-first}
 use Rattle.formats.specs.Format.{twos, fieldsEach}
+use Rattle.formats.proofs.ShapedLaws.{fits-counted}
 use Rattle.formats.proofs.NextLaws.{both-true, then-accepted}
 use Rattle.messages.specs.Records.{Rec1059, Rec1230, biasOf1230}
 use Rattle.messages.specs.Layout1059.{satellite1059, block1059, flat1059}
@@ -24,7 +25,7 @@ use Rattle.messages.proofs.AcceptLaws.{read-as, field-accepted}
 use Rattle.messages.proofs.RecordLaws.{parts1230}
 use Rattle.messages.proofs.Layout1059Laws.{block-good as good1059}
 use Rattle.messages.proofs.Layout1230Laws.{block-good as good1230}
-use Rattle.messages.proofs.Fits1059Laws.{block-tells}
+use Rattle.messages.proofs.Fits1059Laws.{most, block-bits}
 use Rattle.messages.proofs.Read1230Laws.{masked-length}
 use Rattle.messages.proofs.Fields1230Laws.{total-16}
 
@@ -43,13 +44,12 @@ block1059-extends s p {r} e =
     let a = read-as flat1059 (block1059 .reads s p) e in
     let xs = a .0 in
     let x = good1059 .faithful .there s p (reading xs (r .next)) (a .1) in
-    let b = block-tells xs (x .fitting) in
     let m : length (flat1059 xs) ≡ length (r .value) = ap length (a .2) in
     let k : field s p 6 ≡ length xs = holds-first s p 6 (length xs) (fieldsEach satellite1059 xs) (x .holds) in
     record {
-      end = omega (arith, b .bits, x .ends, m, k);
-      few = omega (arith, b .records, m, k);
-      within = x .within (omega (arith, b .bits));
+      end = omega (arith, block-bits xs, x .ends, m, k);
+      few = omega (arith, most xs (fits-counted 6 satellite1059 xs (x .fitting) .1), m, k);
+      within = x .within (omega (arith, block-bits xs));
       limit = field-accepted (λ v. v) s p 6 _ (then-accepted _ _ (a .1) .1) .few;
     }
 
@@ -61,18 +61,11 @@ suffices-1059 s p e =
 
 -- ---- message 1230: 4 bits and 16 a record
 
--- what a block that fits is like
-pub record Block1230 (m : ℕ) (zs : List ℤ) : Type 0 where
-  pub small : m < 16
-  pub count : length zs ≡ length (masked maskSignals m)
-  pub few : length zs ≤ 4
-  pub bits : total (block1230 .fields (m, zs)) ≡ 4 + length zs * 16
-
-pub block1230-tells : (m : ℕ) (zs : List ℤ) → block1230 .fits (m, zs) ≡ true → Block1230 m zs
-block1230-tells m zs f =
+-- a block that fits: its mask, and how many biases it has
+pub fits-1230 : (m : ℕ) (zs : List ℤ) → block1230 .fits (m, zs) ≡ true → (m < 16) × (length zs ≡ length (masked maskSignals m))
+fits-1230 m zs f =
     let u = both-true (fitsUnsigned 4 m) _ f in
-    let c = eqb-true (length zs) (length (masked maskSignals m)) (both-true (eqb (length zs) (length (masked maskSignals m))) _ (u .1) .0) in
-    record { small = ltb-true m (2 ^ 4) (u .0); count = c; few = omega (arith, c, masked-length m); bits = omega (arith, total-next 4 m (fieldsEach (twos 16) zs), total-16 zs) }
+    (ltb-true m (2 ^ 4) (u .0), eqb-true (length zs) (length (masked maskSignals m)) (both-true (eqb (length zs) (length (masked maskSignals m))) _ (u .1) .0))
 
 pub record Extent1230 (s : List ℕ) (p : ℕ) (r : Reading (List Rec1230)) : Type 0 where
   pub end : r .next ≡ p + 4 + length (r .value) * 16
@@ -84,6 +77,9 @@ unfolding readBlock1230
 block1230-extends s p {r} e =
     let a = read-as flat1230 (block1230 .reads s p) e in
     let x = good1230 .faithful .there s p (reading (a .0) (r .next)) (a .1) in
-    let b = block1230-tells (a .0 .0) (a .0 .1) (x .fitting) in
-    let n : length (r .value) ≡ length (a .0 .1) = ap length (sym (a .2)) ∙ sym (length-map (flat1230 (a .0)) biasOf1230) ∙ ap length (parts1230 _ _ (sym (b .count)) .1) in
-    record { end = omega (arith, x .ends, b .bits, n); few = omega (arith, n, b .few); within = x .within (omega (arith, b .bits)) }
+    let m = a .0 .0 in
+    let zs = a .0 .1 in
+    let b = fits-1230 m zs (x .fitting) in
+    let k : total (block1230 .fields (m, zs)) ≡ 4 + length zs * 16 = omega (arith, total-next 4 m (fieldsEach (twos 16) zs), total-16 zs) in
+    let n : length (r .value) ≡ length zs = ap length (sym (a .2)) ∙ sym (length-map (flat1230 (a .0)) biasOf1230) ∙ ap length (parts1230 _ _ (sym (b .1)) .1) in
+    record { end = omega (arith, x .ends, k, n); few = omega (arith, n, b .1, masked-length m); within = x .within (omega (arith, k)) }

@@ -63,42 +63,17 @@ total-satellites (x ∷ xs) =
     let k = length (x .1) in
     omega (arith, ap total (fields-next satellite1059 x xs), total-next 6 (x .0) (bits 5 k ∷ bs ++ fs), total-next 5 k (bs ++ fs), total-append bs fs, total-biases (x .1), total-satellites xs, own-length (x .0) (x .1), length-append (ofSat x) (flat1059 xs))
 
-most : (xs : List Sat) → fitEach satellite1059 xs ≡ true → length (flat1059 xs) ≤ length xs * 31
+pub most : (xs : List Sat) → fitEach satellite1059 xs ≡ true → length (flat1059 xs) ≤ length xs * 31
 unfolding gather
 most [] f = omega arith
 most (x ∷ xs) f =
     let b = each-fits satellite1059 x xs f in
     omega (arith, length-append (ofSat x) (flat1059 xs), own-length (x .0) (x .1), good x (b .0) .thin, most xs (b .1))
 
--- what a block that fits is like
-pub record Block (xs : List Sat) : Type 0 where
-  pub fewer : length xs ≤ 63
-  pub satellites : fitEach satellite1059 xs ≡ true
-  pub bits : total (block1059 .fields xs) ≡ 6 + length xs * 11 + length (flat1059 xs) * 19
-  pub records : length (flat1059 xs) ≤ length xs * 31
+pub block-bits : (xs : List Sat) → total (block1059 .fields xs) ≡ 6 + length xs * 11 + length (flat1059 xs) * 19
+block-bits xs = omega (arith, total-next 6 (length xs) (fieldsEach satellite1059 xs), total-satellites xs)
 
-pub block-tells : (xs : List Sat) → block1059 .fits xs ≡ true → Block xs
-block-tells xs f =
-    let b = fits-counted 6 satellite1059 xs f in
-    let l : length xs < 2 ^ 6 = b .0 in
-    record {
-      fewer = omega arith;
-      satellites = b .1;
-      bits = omega (arith, total-next 6 (length xs) (fieldsEach satellite1059 xs), total-satellites xs);
-      records = most xs (b .1);
-    }
-
-module _ (e : ℕ) where
-  -- ---- records of which nothing is refused make satellites that fit
-
-  fits-of : (c : ℕ) (rs : List Rec1059) → Every (Writable e) rs → fitEach bias1059 (map biasOf (ofSatellite c rs)) ≡ true
-  unfolding ofSatellite
-  fits-of c [] w = fit-each-none bias1059
-  fits-of c (rec1059 b g z ∷ rs) w = go (eqb b c) (fits-of c rs (w .1))
-    where
-      go : (q : Bool) → fitEach bias1059 (map biasOf (ofSatellite c rs)) ≡ true → fitEach bias1059 (map biasOf (keep q (rec1059 b g z) (ofSatellite c rs))) ≡ true
-      go true r = fit-each bias1059 (g, z) _ (true-both (fitsUnsigned 5 g) (fitsTwos 14 z) (lt-ltb g (2 ^ 5) (signal-fits e g (w .0 .known))) (w .0 .fits)) r
-      go false r = r
+-- ---- records of which nothing is refused make satellites that fit
 
 fits-some : (a : ℕ) (rs : List Rec1059) (xs : List Sat) → a < 64 → length rs ≤ 31 → fitEach bias1059 (map biasOf rs) ≡ true → fitEach satellite1059 xs ≡ true
     → fitEach satellite1059 (withSome a rs xs) ≡ true
@@ -118,19 +93,26 @@ at-most rs (suc n) a = go (eqb (length (ofSatellite a rs)) 0) (at-most rs n (suc
     go false h = omega arith
 
 module _ (e : ℕ) where
+  fits-of : (c : ℕ) (rs : List Rec1059) → Every (Writable e) rs → fitEach bias1059 (map biasOf (ofSatellite c rs)) ≡ true
+  unfolding ofSatellite
+  fits-of c [] w = fit-each-none bias1059
+  fits-of c (rec1059 b g z ∷ rs) w = go (eqb b c) (fits-of c rs (w .1))
+    where
+      go : (q : Bool) → fitEach bias1059 (map biasOf (ofSatellite c rs)) ≡ true → fitEach bias1059 (map biasOf (keep q (rec1059 b g z) (ofSatellite c rs))) ≡ true
+      go true r = fit-each bias1059 (g, z) _ (true-both (fitsUnsigned 5 g) (fitsTwos 14 z) (lt-ltb g (2 ^ 5) (signal-fits e g (w .0 .known))) (w .0 .fits)) r
+      go false r = r
+
   fits-from : (rs : List Rec1059) → Every (Writable e) rs → (n a : ℕ) → a + n ≤ 64 → crowded a n rs ≡ fine → fitEach satellite1059 (groupedFrom a n rs) ≡ true
   unfolding groupedFrom crowded
   fits-from rs w zero a l c = fit-each-none satellite1059
   fits-from rs w (suc n) a l c =
       let t = not-refused 6 (a ∷ []) (ltb 31 (length (ofSatellite a rs))) _ c in
-      fits-some a (ofSatellite a rs) (groupedFrom (suc a) n rs) (omega arith) (ltb-false 31 (length (ofSatellite a rs)) (t .0)) (fits-of e a rs w)
+      fits-some a (ofSatellite a rs) (groupedFrom (suc a) n rs) (omega arith) (ltb-false 31 (length (ofSatellite a rs)) (t .0)) (fits-of a rs w)
       (fits-from rs w n (suc a) (omega arith) (t .1))
 
   pub grouped-fits : (rs : List Rec1059) → Fine e rs → block1059 .fits (grouped1059 rs) ≡ true
-  grouped-fits rs w = counted-fits 6 satellite1059 (grouped1059 rs) (few (w .fewer)) (fits-from rs (w .clean) 64 0 (omega arith) (w .thin))
-    where
-      few : (present 0 64 rs ≡ 64 → ⊥) → length (grouped1059 rs) < 2 ^ 6
-      few n = omega (arith, n, same-count rs 64 0, at-most rs 64 0)
+  grouped-fits rs w =
+      counted-fits 6 satellite1059 (grouped1059 rs) (omega (arith, w .fewer, same-count rs 64 0, at-most rs 64 0)) (fits-from rs (w .clean) 64 0 (omega arith) (w .thin))
 
   -- ---- and back: of satellites that fit, with signals of the edition, nothing is refused
 

@@ -10,9 +10,10 @@ use Rattle.bits.specs.Outcome.{outcome}
 use Rattle.bits.specs.Field.{reading}
 use Rattle.bits.specs.Fields.{total, putAll}
 use Rattle.formats.specs.WrittenBack.{WrittenBack}
+use Rattle.formats.proofs.ShapedLaws.{fits-counted}
 use Rattle.formats.proofs.UseLaws.{call-reads-back, call-writes-back}
 use Rattle.messages.specs.Records.{Rec1059, satelliteOf, signalOf1059, biasOf1059, records1059}
-use Rattle.messages.specs.Layout1059.{block1059, Sat, flat1059, grouped1059}
+use Rattle.messages.specs.Layout1059.{satellite1059, block1059, Sat, flat1059, grouped1059}
 use Rattle.messages.specs.Read1059.{readBlock1059}
 use Rattle.messages.specs.Write1059.{fields1059, write1059}
 use Rattle.messages.specs.Satellites1059.{satellites1059, Regular}
@@ -21,7 +22,7 @@ use Rattle.messages.proofs.Accepts1059.{Fine, edition-known, call-writt
 use Rattle.messages.proofs.RecordLaws.{columns1059}
 use Rattle.messages.proofs.Layout1059Laws.{block-good, same-count}
 use Rattle.messages.proofs.Grouped1059Laws.{grouped-again, flat-grouped}
-use Rattle.messages.proofs.Fits1059Laws.{block-tells, grouped-fits, all-writable, thin-of}
+use Rattle.messages.proofs.Fits1059Laws.{most, grouped-fits, all-writable, thin-of}
 
 -- a block that was written is there
 pub block-again-1059 : (e : ℕ) (s : List ℕ) (p : ℕ) (sats gs : List ℕ) (zs : List ℤ) {q : ℕ} → write1059 e s p sats gs zs .answer ≡ Accepted q
@@ -39,13 +40,13 @@ pub block-back-1059 : (e : ℕ) (s : List ℕ) (p : ℕ) {q : ℕ} (xs : List Sa
 unfolding fields1059
 block-back-1059 e s p {q} xs h regular t r few room =
     let rs = flat1059 xs in
-    let b = block-tells xs (block-good .faithful .there s p (reading xs q) h .fitting) in
-    let same : grouped1059 rs ≡ xs = grouped-again xs (regular .ascending) (b .satellites) (regular .biased) in
+    let b = fits-counted 6 satellite1059 xs (block-good .faithful .there s p (reading xs q) h .fitting) in
+    let same : grouped1059 rs ≡ xs = grouped-again xs (regular .ascending) (b .1) (regular .biased) in
     let fine : Fine e rs =
     record {
-      clean = all-writable e xs (b .satellites) (regular .assigned);
-      thin = thin-of rs 64 0 (rw same (b .satellites));
-      fewer = λ z. omega (arith, z, same-count rs 64 0, ap length same, b .fewer);
+      clean = all-writable e xs (b .1) (regular .assigned);
+      thin = thin-of rs 64 0 (rw same (b .1));
+      fewer = λ z. omega (arith, z, same-count rs 64 0, ap length same, b .0);
       single = regular .single;
     } in
     call-writes-back block1059 (block-good .faithful) s p h same t r room (λ within.
@@ -55,7 +56,7 @@ block-back-1059 e s p {q} xs h regular t r few room =
       few = few;
       signals = length-map rs satelliteOf ∙ sym (length-map rs signalOf1059);
       biases = length-map rs satelliteOf ∙ sym (length-map rs biasOf1059);
-      most = omega (arith, length-map rs satelliteOf, b .records, b .fewer);
+      most = omega (arith, length-map rs satelliteOf, most xs (b .1), b .0);
       records = rw (columns1059 rs) fine;
       within = rw (columns1059 rs) within;
     })

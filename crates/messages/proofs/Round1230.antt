@@ -32,7 +32,8 @@ use Rattle.messages.proofs.I16Laws.{all-fit}
 use Rattle.messages.proofs.RecordLaws.{parts1230, columns1230}
 use Rattle.messages.proofs.Layout1230Laws.{block-good}
 use Rattle.messages.proofs.Fields1230Laws.{digits}
-use Rattle.messages.proofs.ExtentLaws.{block1230-tells}
+use Rattle.messages.proofs.ExtentLaws.{fits-1230}
+use Rattle.messages.proofs.Read1230Laws.{masked-length}
 use Rattle.messages.proofs.RepeatLaws.{once}
 use Rattle.messages.proofs.Accepts1230.{call-written, call-accepted}
 
@@ -193,12 +194,12 @@ block-back-1230 s p {q} rs h t r few room =
     let m = a .0 .0 in
     let zs = a .0 .1 in
     let gs = masked maskSignals m in
-    let b = block1230-tells m zs (block-good .faithful .there s p (reading (m, zs) q) (a .1) .fitting) in
-    let ok = mask-good m (b .small) in
+    let b = fits-1230 m zs (block-good .faithful .there s p (reading (m, zs) q) (a .1) .fitting) in
+    let ok = mask-good m (b .0) in
     let f = then-accepted (firstFault fault1230 0 gs) _ (ok .0) in
-    let parts = parts1230 gs zs (sym (b .count)) in
+    let parts = parts1230 gs zs (sym (b .1)) in
     let same : grouped1230 (records1230 gs zs) ≡ (m, zs) =
-    ap₂ (λ (k : ℕ) (l : List ℤ). (k, l)) (ap (maskOf maskSignals) (parts .0) ∙ ok .1) (biases-again 0 maskSignals (omega arith, (omega arith, (omega arith, (omega arith, tt)))) m zs (b .count)) in
+    ap₂ (λ (k : ℕ) (l : List ℤ). (k, l)) (ap (maskOf maskSignals) (parts .0) ∙ ok .1) (biases-again 0 maskSignals (omega arith, (omega arith, (omega arith, (omega arith, tt)))) m zs (b .1)) in
     rw (sym (a .2), parts .0, parts .1)
     (call-writes-back block1230 (block-good .faithful) s p (a .1) same t r room (λ within.
-    call-written t r gs zs (record { few = few; biases = sym (b .count); most = omega (arith, b .count, b .few); clean = f .1; single = f .2; within = within })))
+    call-written t r gs zs (record { few = few; biases = sym (b .1); most = omega (arith, b .1, masked-length m); clean = f .1; single = f .2; within = within })))
