@@ -146,11 +146,11 @@ fn write_faultless(
     }
     let repeat = first_repeat(satellites, signals);
     let bits = 6 + m * 11 + n * 19;
-    let fits = put::has_room(bytes.len(), start, bits);
+    let has_room = put::has_room(bytes.len(), start, bits);
     if repeat < n {
         return BlockWritten::Duplicate(repeat);
     }
-    if !fits {
+    if !has_room {
         return BlockWritten::Room(bits);
     }
     let at = put::unsigned(bytes, start, 6, m as u64);
