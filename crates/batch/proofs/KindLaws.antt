@@ -1,26 +1,22 @@
 -- A frame that the scan hands out at a place: it was decided there, has at most 1,029 bytes, and its first byte tells its kind. Assumes nothing.
-use mathlib.Core.Path.{_≡_, sym, ap, _∙_, subst}
+use mathlib.Core.Path.{_≡_, sym, ap, _∙_}
 use mathlib.Core.Bool.{Bool, true, false, cond}
-use mathlib.Core.List.{List, [], _∷_, _++_, append-assoc}
-use Prim.Native.Nat.{ℕ, zero, suc, _+_, _≤_}
+use mathlib.Core.List.{List, [], _∷_}
+use Prim.Native.Nat.{ℕ, zero, suc, _≤_}
 use native.Mathlib.Nat.{not-suc-le-zero, add-zero}
 use native.Mathlib.Omega.{arith}
-use lib.ListN.{length, getD, drop, length-drop}
-use lib.Seq.{drop-drop, getD-drop, length-take-le}
+use lib.ListN.{length, getD, drop}
+use lib.Seq.{getD-drop}
 use lib.Dec.{leb, eqb}
 use borrow.Author.Tests.{ne-eqb}
-use Rattle.frames.specs.Scan.{Decision, Take, Wait, Item, Skipped, Framed, scan, framesOf}
+use Rattle.frames.specs.Scan.{Take, Wait, scan}
 use Rattle.frames.specs.Framing.{Framing, Lawful, decide}
 use Rattle.frames.specs.Rtcm.{Kind, Rtcm, Ubx}
 use Rattle.frames.specs.Modes.{framingOf}
-use Rattle.frames.specs.Walk as walk
-use Rattle.frames.specs.Walk.{cut}
 use Rattle.frames.specs.Steps.{kindAt}
 use Rattle.frames.proofs.FramingLaws.{decides}
 use Rattle.frames.proofs.ModeLaws.{lawful}
 use Rattle.frames.proofs.KindLaws.{at-front}
-use Rattle.frames.proofs.StandLaws.{Stands, stands}
-use Rattle.frames.proofs.WalkLaws.{Finds}
 use Rattle.batch.specs.Batch.{kindNumber}
 use Rattle.batch.specs.Steps.{kindNumberAt}
 

@@ -3,16 +3,14 @@ use mathlib.Core.Path.{_≡_, refl, sym, ap, ap₂, _∙_, subst}
 use mathlib.Core.Bool.{Bool, true, false, cond}
 use mathlib.Core.List.{List, [], _∷_, _++_, append-nil, append-assoc}
 use Prim.Native.Nat.{ℕ, _+_, _-_, _≤_}
-use native.Mathlib.Nat.{zero-add, add-zero}
+use native.Mathlib.Nat.{add-zero}
 use native.Mathlib.Omega.{arith}
 use lib.ListN.{length, take, drop, length-append, length-drop, length-map, take-append-drop}
 use lib.Seq.{take-at, drop-at, take-all, drop-append-le, length-take-le}
-use lib.Dec.{leb}
-use borrow.Author.Tests.{leb-true}
 use Rattle.bits.specs.Told.{Told, Accepted}
 use Rattle.bits.specs.Outcome.{outcome}
 use Rattle.bits.specs.Onto.{onto}
-use Rattle.frames.specs.Scan.{Decision, Item, Scanned, Handed, scan, bytesOf, handed, framed, skippedOf}
+use Rattle.frames.specs.Scan.{Decision, Item, Handed, scan, bytesOf, handed, framed, skippedOf}
 use Rattle.frames.specs.Framing.{decide}
 use Rattle.frames.specs.Rtcm.{Why, Kind}
 use Rattle.frames.specs.Modes.{framingOf}

@@ -1,7 +1,7 @@
 -- The loop has come to place i with k frames listed, no earlier than where it began. Assumes nothing.
-use mathlib.Core.Path.{refl, sym, _∙_}
+use mathlib.Core.Path.{refl}
 use mathlib.Core.List.{_++_}
-use Prim.Native.Nat.{_+_, _-_, _≤_}
+use Prim.Native.Nat.{_-_, _≤_}
 use native.Mathlib.Omega.{arith}
 use lib.ListN.{length, drop, length-append}
 use borrow.Author.Needs.{needs}
@@ -12,7 +12,7 @@ use Rattle.frames.specs.Steps.{startsIn}
 use Rattle.frames.specs.ListSteps.{listOn}
 use Rattle.frames.proofs.ModeLaws.{lawful}
 use Rattle.frames.proofs.StartLaws.{mode-starts}
-use Rattle.frames.proofs.ListLaws.{Came, by-numbers, reached-so, stops-at, good-few, good-inside, good-some, lists}
+use Rattle.frames.proofs.ListLaws.{Came, by-numbers, reached-so, stops-at, good-few, good-inside, lists}
 use Rattle.frames.proofs.list.list_run.Statement.{statement}
 use Rattle.frames.proofs.list.list_run.Tie as tie
 
