@@ -68,11 +68,7 @@ module _ {W K : Type 0} (F : Framing W K) (L : Lawful F) where
       let e = every-byte (closing (decide F)) (closing-whole (decide F) (decides F L .whole)) h in
       rw (holds-nothing (decide F) h, append-nil (bytesOf (closed F h))) at e
 
-  -- EVERY BYTE of a stream is in exactly one item, of the scan or of the closing, in order.
-  pub every-byte-closed : (s : List ℕ) → bytesOf (scan (decide F) s .items) ++ bytesOf (closed F (scan (decide F) s .held)) ≡ s
-  every-byte-closed s = rw (all-given (scan (decide F) s .held)) (every-byte (decide F) (decides F L .whole) s)
-
-  -- the same of calls as they were made: the frames handed out and the bytes skipped are those of items that, with those of the closing, are what was taken
+  -- EVERY BYTE that was taken is in exactly one item, of the calls as they were made or of the closing: the frames handed out and the bytes skipped are those of items that, with those of the closing, are what was taken
   pub every-byte-once : {s a : List ℕ} {fs : List (Handed K)} {n : ℕ} {x : Scanner} → Calls F s fs n a x
       → (is : List (Item W K)) × (handed 0 is ≡ fs) × (skippedOf is ≡ n) × (bytesOf is ++ bytesOf (closed F (take (x .count) a)) ≡ s)
   every-byte-once {s} {a} {fs} {n} {x} c =

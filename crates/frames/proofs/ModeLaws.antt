@@ -35,9 +35,6 @@ lawful mode = lawful-if (eqb mode 0)
 pub mode-zero : framingOf 0 ≡ rtcm
 mode-zero = refl
 
-pub mode-one : framingOf 1 ≡ both
-mode-one = refl
-
 module _ (mode : ℕ) where
   -- THE LAW OF JOINING in every mode
   pub join : (a b : List ℕ)
