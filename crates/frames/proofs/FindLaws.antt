@@ -2,7 +2,7 @@
 use mathlib.Core.Path.{_≡_, refl, sym, ap, _∙_, subst₂}
 use mathlib.Core.Bool.{Bool, false}
 use mathlib.Core.List.{List, _++_}
-use Prim.Native.Nat.{ℕ, _+_, _-_, _≤_, _<_, max}
+use Prim.Native.Nat.{ℕ, _+_, _-_, _^_, _≤_, _<_, max}
 use native.Mathlib.Omega.{arith}
 use lib.ListN.{length, getD, drop, length-append}
 use Rattle.frames.specs.Scan.{Skip}
@@ -33,6 +33,13 @@ nearer n i j l k = omega arith
 -- no more candidates failed than bytes were skipped
 pub one-more-failed : (f i j : ℕ) → f ≤ i → i ≤ j → f + 1 ≤ j + 1
 one-more-failed f i j l k = omega arith
+
+-- a place within is below 2 ^ 64, and so is the next
+pub sum-fits : (j n a : ℕ) → j + n ≤ a → a < 2 ^ 64 → j + n < 2 ^ 64
+sum-fits j n a h l = omega arith
+
+pub next-fits : (j a : ℕ) → j < a → a < 2 ^ 64 → j + 1 < 2 ^ 64
+next-fits j a h l = omega arith
 
 pub less-again : (b j : ℕ) → b ≤ j → b ≤ j + 1
 less-again b j l = omega arith

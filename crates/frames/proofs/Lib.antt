@@ -32,6 +32,7 @@ pub mod StartLaws
 pub mod AmongLaws
 pub mod KindLaws
 pub mod SumsLaws
+pub mod RunLaws
 pub mod UbxCandidateLaws
 pub mod UbxExamples
 pub mod CloseLaws

@@ -8,7 +8,7 @@ use lib.Seq.{drop-cons}
 use Rattle.frames.specs.Ubx.{addByte, sumsFrom, sums}
 use Rattle.frames.proofs.SeamLaws.{part-across}
 
-sums-append : (s t : List ℕ) (c : ℕ × ℕ) → sumsFrom c (s ++ t) ≡ sumsFrom (sumsFrom c s) t
+pub sums-append : (s t : List ℕ) (c : ℕ × ℕ) → sumsFrom c (s ++ t) ≡ sumsFrom (sumsFrom c s) t
 unfolding sumsFrom
 sums-append [] t c = refl
 sums-append (x ∷ s) t c = sums-append s t (addByte c x)

@@ -2,7 +2,7 @@
 use mathlib.Core.Path.{_≡_, refl, sym, ap, _∙_}
 use mathlib.Core.Bool.{Bool, true, false, _&&_}
 use mathlib.Core.List.{List, [], _∷_}
-use Prim.Native.Nat.{ℕ, zero, suc, _+_, _*_, _≤_, _<_}
+use Prim.Native.Nat.{ℕ, zero, suc, _+_, _-_, _*_, _≤_, _<_}
 use native.Mathlib.Nat.{not-suc-le-zero, le-of-suc-le-suc}
 use native.Mathlib.Omega.{arith}
 use lib.ListN.{length, getD, take, drop, length-drop, List·getD-eq-default}
@@ -73,6 +73,10 @@ at-place s i k = getD-drop i s k 0
 -- the two bytes of the length, as they are read
 pub payload-here : {low high a b : ℕ} → low ≡ a → high ≡ b → low + high * 256 ≡ a + b * 256
 payload-here p q = rw (p, q)
+
+-- and with the eight bytes around the payload taken away again
+pub claimed : {m n : ℕ} → m ≡ n → m + 8 - 8 ≡ n
+claimed {m} {n} e = omega arith
 
 -- at place i of s stands B5
 module _ (s : List ℕ) (i : ℕ) (e : getD s i 0 ≡ 0xB5) where

@@ -2,7 +2,7 @@
 use mathlib.Core.Path.{_≡_}
 use mathlib.Core.Bool.{Bool, true, false, cond, _||_}
 use mathlib.Core.List.{List, _++_}
-use Prim.Native.Nat.{ℕ, zero, suc, _+_, _-_, _≤_, _<_}
+use Prim.Native.Nat.{ℕ, zero, suc, _+_, _-_, _*_, _≤_, _<_}
 use lib.ListN.{length, getD, take, drop}
 use lib.Dec.{eqb}
 use Rattle.bits.specs.Told.{Accepted}
@@ -15,6 +15,7 @@ use Rattle.frames.specs.Feed as fed
 use Rattle.frames.specs.Call as call
 use Rattle.frames.specs.Call.{Scanner, heldFrom, onwards, FedOutcome}
 use Rattle.frames.specs.Rtcm.{Kind, Rtcm, Ubx}
+use Rattle.frames.specs.Ubx as ubx
 use Rattle.frames.specs.Walk as walk
 use Rattle.frames.specs.Walk.{Place}
 use Rattle.frames.specs.declared.scan.Candidate.{Candidate}
@@ -83,6 +84,38 @@ pub record Tails (s q : List ℕ) (base stop : ℕ) : Type 0 where
   pub within : stop ≤ length s
   pub room : stop < base + length q
   pub sums : (k : ℕ) → base + k ≤ stop → getD q k 0 ≡ crc (take (stop - (base + k)) (drop (base + k) s))
+
+-- two sums in one number
+abbrev pub paired : ℕ × ℕ → ℕ
+paired c = c .1 * 256 + c .0
+
+-- q holds the two sums of UBX of the bytes of s from the first place of a window up to each of its places
+pub record Runs (s q : List ℕ) (base stop : ℕ) : Type 0 where
+  pub ordered : base ≤ stop
+  pub within : stop ≤ length s
+  pub room : stop < base + length q
+  pub sums : (k : ℕ) → base + k ≤ stop → getD q k 0 ≡ paired (ubx.sums (take k (drop base s)))
+
+-- the two sums of the first k bytes of s, for each k, stand in d
+pub record Summed (s d : List ℕ) : Type 0 where
+  pub sums : (k : ℕ) → k ≤ length s → getD d k 0 ≡ paired (ubx.sums (take k s))
+
+-- at place i of s stands a B5; 62 follows, and what a payload of n bytes asks for is there
+abbrev pub Whole : List ℕ → ℕ → ℕ → Type 0
+Whole s i n = (getD s (i + 1) 0 ≡ 0x62) × (n ≡ getD s (i + 4) 0 + getD s (i + 5) 0 * 256) × (n ≤ 1021) × (i + (n + 8) ≤ length s)
+
+-- what the B5 at place i of s and the bytes behind it claim: all is decided; or a frame of n bytes is there, if its sums are right
+abbrev pub Claim : List ℕ → ℕ → Candidate → Type 0
+Claim s i Incomplete = Incomplete ≡ candidate ubx.ubx (drop i s)
+Claim s i (NotValid n) = NotValid n ≡ candidate ubx.ubx (drop i s)
+Claim s i (Good n) = (8 ≤ n) × Whole s i (n - 8)
+
+-- the windows of a search in s: the tails in q, and in every mode but 0 the runs in r
+pub record Ready (mode : ℕ) (s q r : List ℕ) (base stop ubxBase ubxStop : ℕ) : Type 0 where
+  pub tails : Tails s q base stop
+  pub tails-room : length q ≡ 4097
+  pub runs : Runs s r ubxBase ubxStop
+  pub runs-room : (mode ≡ 0 → ⊥) → length r ≡ 4097
 
 -- The places found lie within the n bytes held and the m bytes of the piece, and what is left has room in an area of so many bytes.
 abbrev pub CanHold : (area n m : ℕ) → Searched → Type 0

@@ -9,8 +9,9 @@ ghost use lib.ListN.{length, getD, drop};
 ghost use Rattle.frames.specs.Framing.{decide};
 ghost use Rattle.frames.specs.Feed.{feed};
 ghost use Rattle.frames.specs.Rtcm.{rtcm};
+ghost use Rattle.frames.specs.Ubx.{ubx};
 ghost use Rattle.frames.specs.Modes.{framingOf};
-ghost use Rattle.frames.specs.Steps.{startsIn, candidate, searched, Reached, Tails};
+ghost use Rattle.frames.specs.Steps.{startsIn, candidate, searched, Reached, Tails, Runs, Whole, Ready};
 use crate::scan;
 use crate::scan::Candidate;
 use crate::scan::Searched;
@@ -23,10 +24,30 @@ pub(crate) struct Window {
     pub stop: usize,
 }
 
-// The search goes on from place `from`, with the bytes up to place `first` taken. The first window is a small one, since a
-// frame may stand near.
+// The search goes on from place `from`, with the bytes up to place `first` taken. Only a search for both kinds has room for
+// the sums of UBX.
 pub(crate) fn find_on(held: &[u8], piece: &[u8], mode: u32, from: usize, first: usize) -> Searched
     requires { ⌜ (Reached (framingOf mode) (now held) (now piece) from (first - length (now held))) × (length (now held) ≤ first) × (length (now held) + length (now piece) < 2 ^ 64) ⌝ }
+    ensures { λ r. ⌜ r ≡ searched (feed (decide (framingOf mode)) (now (held .entry)) (now (piece .entry))) ⌝ }
+{
+    if mode == 0 {
+        let mut none = [0u32; 1];
+        return find_by(held, piece, mode, from, first, &mut none);
+    }
+    let mut runs = [0u32; 4097];
+    find_by(held, piece, mode, from, first, &mut runs)
+}
+
+// The same, by windows. The first one is small, since a frame may stand near.
+fn find_by(
+    held: &[u8],
+    piece: &[u8],
+    mode: u32,
+    from: usize,
+    first: usize,
+    runs: &mut [u32],
+) -> Searched
+    requires { ⌜ (Reached (framingOf mode) (now held) (now piece) from (first - length (now held))) × (length (now held) ≤ first) × (length (now held) + length (now piece) < 2 ^ 64) × (0 < length (now runs)) × (getD (now runs) 0 0 ≡ 0) × ((mode ≡ 0 → ⊥) → length (now runs) ≡ 4097) ⌝ }
     ensures { λ r. ⌜ r ≡ searched (feed (decide (framingOf mode)) (now (held .entry)) (now (piece .entry))) ⌝ }
 {
     let h = held.len();
@@ -35,6 +56,8 @@ pub(crate) fn find_on(held: &[u8], piece: &[u8], mode: u32, from: usize, first: 
     let near = open(held, piece, from, 1536, &mut sums);
     let mut base = near.base;
     let mut stop = near.stop;
+    let mut ubx_base = from;
+    let mut ubx_stop = from;
     let mut i = from;
     let mut end = first;
     while i < all {
@@ -42,10 +65,19 @@ pub(crate) fn find_on(held: &[u8], piece: &[u8], mode: u32, from: usize, first: 
         if all <= j {
             return Searched::More(j);
         }
-        let window = cover(held, piece, base, stop, j, &mut sums);
-        base = window.base;
-        stop = window.stop;
-        match candidate_in(held, piece, base, stop, j, mode, &sums) {
+        let at = Windows {
+            base,
+            stop,
+            ubx_base,
+            ubx_stop,
+        };
+        let judged = judge(held, piece, at, j, mode, &mut sums, runs);
+        base = judged.windows.base;
+        stop = judged.windows.stop;
+        ubx_base = judged.windows.ubx_base;
+        ubx_stop = judged.windows.ubx_stop;
+        let found = judged.candidate;
+        match found {
             Candidate::Incomplete => {
                 return Searched::More(j);
             }
@@ -94,6 +126,152 @@ pub(crate) fn open(held: &[u8], piece: &[u8], i: usize, size: usize, sums: &mut 
         base: i,
         stop: i + n,
     }
+}
+
+// The windows at hand, of the checksums and of the sums of UBX: of each its first place, and the place behind its last byte.
+pub(crate) struct Windows {
+    base: usize,
+    stop: usize,
+    ubx_base: usize,
+    ubx_stop: usize,
+}
+
+// What the check of a start byte says, and the windows that are then at hand.
+pub(crate) struct Judged {
+    candidate: Candidate,
+    windows: Windows,
+}
+
+// The check of the start byte at place i, by the window of its kind.
+pub(crate) fn judge(
+    held: &[u8],
+    piece: &[u8],
+    at: Windows,
+    i: usize,
+    mode: u32,
+    sums: &mut [u32],
+    runs: &mut [u32],
+) -> Judged
+    requires { ⌜ (i < length (now held) + length (now piece)) × (length (now held) + length (now piece) < 2 ^ 64) × (startsIn mode (getD (now held ++ now piece) i 0) ≡ true) × (at .base ≤ i) × (at .«ubx_base» ≤ i) × Ready mode (now held ++ now piece) (now sums) (now runs) (at .base) (at .stop) (at .«ubx_base») (at .«ubx_stop») ⌝ }
+    ensures { λ r. ⌜ (r .candidate ≡ candidate (framingOf mode) (drop i (now (held .entry) ++ now (piece .entry)))) × (r .windows .base ≤ i) × (r .windows .«ubx_base» ≤ i) × Ready mode (now (held .entry) ++ now (piece .entry)) (now (sums .exit)) (now (runs .exit)) (r .windows .base) (r .windows .stop) (r .windows .«ubx_base») (r .windows .«ubx_stop») × (length (now (runs .exit)) ≡ length (now (runs .entry))) ⌝ }
+{
+    if mode == 0 {
+        return by_tails(held, piece, at, i, sums);
+    }
+    if scan::byte_at(held, piece, i) == 0xB5 {
+        return by_runs(held, piece, at, i, runs);
+    }
+    by_tails(held, piece, at, i, sums)
+}
+
+// The check of the D3 at place i, by the window of the checksums.
+fn by_tails(held: &[u8], piece: &[u8], at: Windows, i: usize, sums: &mut [u32]) -> Judged
+    requires { ⌜ (i < length (now held) + length (now piece)) × (length (now held) + length (now piece) < 2 ^ 64) × (getD (now held ++ now piece) i 0 ≡ 0xD3) × (at .base ≤ i) × (length (now sums) ≡ 4097) × Tails (now held ++ now piece) (now sums) (at .base) (at .stop) ⌝ }
+    ensures { λ r. ⌜ (r .candidate ≡ candidate rtcm (drop i (now (held .entry) ++ now (piece .entry)))) × (r .windows .base ≤ i) × (r .windows .«ubx_base» ≡ at .«ubx_base») × (r .windows .«ubx_stop» ≡ at .«ubx_stop») × (length (now (sums .exit)) ≡ 4097) × Tails (now (held .entry) ++ now (piece .entry)) (now (sums .exit)) (r .windows .base) (r .windows .stop) ⌝ }
+{
+    let window = cover(held, piece, at.base, at.stop, i, sums);
+    let found = rtcm_in(held, piece, window.base, window.stop, i, sums);
+    Judged {
+        candidate: found,
+        windows: Windows {
+            base: window.base,
+            stop: window.stop,
+            ubx_base: at.ubx_base,
+            ubx_stop: at.ubx_stop,
+        },
+    }
+}
+
+// The check of the B5 at place i, by the window of the sums of UBX.
+fn by_runs(held: &[u8], piece: &[u8], at: Windows, i: usize, runs: &mut [u32]) -> Judged
+    requires { ⌜ (i < length (now held) + length (now piece)) × (length (now held) + length (now piece) < 2 ^ 64) × (getD (now held ++ now piece) i 0 ≡ 0xB5) × (at .«ubx_base» ≤ i) × (length (now runs) ≡ 4097) × Runs (now held ++ now piece) (now runs) (at .«ubx_base») (at .«ubx_stop») ⌝ }
+    ensures { λ r. ⌜ (r .candidate ≡ candidate ubx (drop i (now (held .entry) ++ now (piece .entry)))) × (r .windows .«ubx_base» ≤ i) × (r .windows .base ≡ at .base) × (r .windows .stop ≡ at .stop) × (length (now (runs .exit)) ≡ 4097) × Runs (now (held .entry) ++ now (piece .entry)) (now (runs .exit)) (r .windows .«ubx_base») (r .windows .«ubx_stop») ⌝ }
+{
+    let window = cover_runs(held, piece, at.ubx_base, at.ubx_stop, i, runs);
+    let found = ubx_in(held, piece, window.base, window.stop, i, runs);
+    Judged {
+        candidate: found,
+        windows: Windows {
+            base: at.base,
+            stop: at.stop,
+            ubx_base: window.base,
+            ubx_stop: window.stop,
+        },
+    }
+}
+
+// The window of UBX sums that serves a candidate at place i: the one at hand, or a new one from there on.
+fn cover_runs(
+    held: &[u8],
+    piece: &[u8],
+    base: usize,
+    stop: usize,
+    i: usize,
+    runs: &mut [u32],
+) -> Window
+    requires { ⌜ (i < length (now held) + length (now piece)) × (length (now held) + length (now piece) < 2 ^ 64) × (length (now runs) ≡ 4097) × (base ≤ i) × Runs (now held ++ now piece) (now runs) base stop ⌝ }
+    ensures { λ r. ⌜ (r .base ≤ i) × (i + min (length (now (held .entry)) + length (now (piece .entry)) - i) 1029 ≤ r .stop) × Runs (now (held .entry) ++ now (piece .entry)) (now (runs .exit)) (r .base) (r .stop) × (length (now (runs .exit)) ≡ 4097) ⌝ }
+{
+    let asked = scan::least(held.len() + piece.len() - i, 1029);
+    if i + asked <= stop {
+        return Window { base, stop };
+    }
+    open_runs(held, piece, i, runs)
+}
+
+// A new window of UBX sums from place i on.
+fn open_runs(held: &[u8], piece: &[u8], i: usize, runs: &mut [u32]) -> Window
+    requires { ⌜ (i ≤ length (now held) + length (now piece)) × (length (now held) + length (now piece) < 2 ^ 64) × (length (now runs) ≡ 4097) ⌝ }
+    ensures { λ r. ⌜ (r .base ≡ i) × (r .stop ≡ i + min 4096 (length (now (held .entry)) + length (now (piece .entry)) - i)) × Runs (now (held .entry) ++ now (piece .entry)) (now (runs .exit)) (r .base) (r .stop) × (length (now (runs .exit)) ≡ 4097) ⌝ }
+{
+    let mut bytes = [0u8; 4096];
+    let n = scan::least(4096, held.len() + piece.len() - i);
+    scanner::gather(&mut bytes, held, piece, i, n);
+    ubx::runs(&bytes[0..n], runs);
+    Window {
+        base: i,
+        stop: i + n,
+    }
+}
+
+// The frame check of the B5 at place i, by the window.
+fn ubx_in(held: &[u8], piece: &[u8], base: usize, stop: usize, i: usize, runs: &[u32]) -> Candidate
+    requires { ⌜ (i < length (now held) + length (now piece)) × (length (now held) + length (now piece) < 2 ^ 64) × (getD (now held ++ now piece) i 0 ≡ 0xB5) × (base ≤ i) × (i + min (length (now held) + length (now piece) - i) 1029 ≤ stop) × Runs (now held ++ now piece) (now runs) base stop ⌝ }
+    ensures { λ r. ⌜ r ≡ candidate ubx (drop i (now (held .entry) ++ now (piece .entry))) ⌝ }
+{
+    match ubx::claim(held, piece, i) {
+        Candidate::Incomplete => Candidate::Incomplete,
+        Candidate::NotValid(n) => Candidate::NotValid(n),
+        Candidate::Good(n) => sums_in(held, piece, base, stop, i, n - 8, runs),
+    }
+}
+
+// The check of a UBX frame at place i that is whole, with n bytes of payload. Its sums are what takes those up to its class
+// to those up to the end of its payload: the second takes each of these bytes' share of the first sum before them too.
+fn sums_in(
+    held: &[u8],
+    piece: &[u8],
+    base: usize,
+    stop: usize,
+    i: usize,
+    n: usize,
+    runs: &[u32],
+) -> Candidate
+    requires { ⌜ (length (now held) + length (now piece) < 2 ^ 64) × (getD (now held ++ now piece) i 0 ≡ 0xB5) × (base ≤ i) × (i + (n + 8) ≤ stop) × Whole (now held ++ now piece) i n × Runs (now held ++ now piece) (now runs) base stop ⌝ }
+    ensures { λ r. ⌜ r ≡ candidate ubx (drop i (now (held .entry) ++ now (piece .entry))) ⌝ }
+{
+    let k = i + 2 - base;
+    let before = runs[k];
+    let after = runs[k + n + 4];
+    let first = scan::byte_at(held, piece, i + n + 6);
+    if (before % 256 + first) % 256 != after % 256 {
+        return Candidate::NotValid(n + 8);
+    }
+    let second = scan::byte_at(held, piece, i + n + 7);
+    if (before / 256 + (n + 4) as u32 * (before % 256) + second) % 256 != after / 256 {
+        return Candidate::NotValid(n + 8);
+    }
+    Candidate::Good(n + 8)
 }
 
 // The check of the start byte at place i: of a D3 by the window, of a B5 by its own sums.

@@ -5,7 +5,7 @@ ghost use mathlib.Core.List.{_++_};
 ghost use Prim.Native.Nat.{_+_, _^_, _≤_, _<_};
 ghost use lib.ListN.{length, getD, take, drop};
 ghost use Rattle.frames.specs.Ubx.{ubx, sums, sumsFrom};
-ghost use Rattle.frames.specs.Steps.{candidate};
+ghost use Rattle.frames.specs.Steps.{candidate, Whole, Claim, Summed};
 use crate::frame;
 use crate::scan;
 use crate::scan::Candidate;
@@ -21,6 +21,19 @@ pub(crate) struct Sums {
 pub(crate) fn ubx_at(held: &[u8], piece: &[u8], i: usize) -> Candidate
     requires { ⌜ (i < length (now held) + length (now piece)) × (length (now held) + length (now piece) < 2 ^ 64) × (getD (now held ++ now piece) i 0 ≡ 0xB5) ⌝ }
     ensures { λ r. ⌜ r ≡ candidate ubx (drop i (now (held .entry) ++ now (piece .entry))) ⌝ }
+{
+    match claim(held, piece, i) {
+        Candidate::Incomplete => Candidate::Incomplete,
+        Candidate::NotValid(n) => Candidate::NotValid(n),
+        Candidate::Good(n) => by_sums(held, piece, i, n - 8),
+    }
+}
+
+// What the B5 at place i and the five bytes behind it claim: that it starts no frame, or one that is not there yet; or a
+// frame of so many bytes, if its sums are right.
+pub(crate) fn claim(held: &[u8], piece: &[u8], i: usize) -> Candidate
+    requires { ⌜ (i < length (now held) + length (now piece)) × (length (now held) + length (now piece) < 2 ^ 64) × (getD (now held ++ now piece) i 0 ≡ 0xB5) ⌝ }
+    ensures { λ r. ⌜ Claim (now (held .entry) ++ now (piece .entry)) i r ⌝ }
 {
     let left = held.len() + piece.len() - i;
     if left < 2 {
@@ -41,6 +54,14 @@ pub(crate) fn ubx_at(held: &[u8], piece: &[u8], i: usize) -> Candidate
     if left < n + 8 {
         return Candidate::Incomplete;
     }
+    Candidate::Good(n + 8)
+}
+
+// The check of a frame at place i that is whole, with n bytes of payload, by its sums.
+fn by_sums(held: &[u8], piece: &[u8], i: usize, n: usize) -> Candidate
+    requires { ⌜ (length (now held) + length (now piece) < 2 ^ 64) × (getD (now held ++ now piece) i 0 ≡ 0xB5) × Whole (now held ++ now piece) i n ⌝ }
+    ensures { λ r. ⌜ r ≡ candidate ubx (drop i (now (held .entry) ++ now (piece .entry))) ⌝ }
+{
     let sums = sums_of(held, piece, i + 2, n + 4);
     if scan::byte_at(held, piece, i + n + 6) != sums.first {
         return Candidate::NotValid(n + 8);
@@ -83,4 +104,21 @@ fn sums_from(start: Sums, bytes: &[u8]) -> Sums
         i += 1;
     }
     Sums { first, second }
+}
+
+// Stores the sums of the first bytes of a part, both in one number: of none, of one, and so on up to all.
+pub(crate) fn runs(part: &[u8], out: &mut [u32])
+    requires { ⌜ length (now part) < length (now out) ⌝ }
+    ensures { λ _. ⌜ (Summed (now (part .entry)) (now (out .exit))) × (length (now (out .exit)) ≡ length (now (out .entry))) ⌝ }
+{
+    let mut first: u32 = 0;
+    let mut second: u32 = 0;
+    let mut k: usize = 0;
+    out[0] = 0;
+    while k < part.len() {
+        first = (first + frame::wide(part[k])) % 256;
+        second = (second + first) % 256;
+        k += 1;
+        out[k] = second * 256 + first;
+    }
 }

@@ -1,165 +1,49 @@
--- Each return is a case of what is decided at a B5. Assumes nothing.
-use mathlib.Core.Path.{sym, _∙_}
+-- What was claimed is decided, or the sums decide. Assumes nothing.
+use mathlib.Core.Path.{sym, _∙_, subst}
 use native.Mathlib.Omega.{arith}
-use lib.ListN.{length-append}
-use Rattle.frames.proofs.UbxCandidateLaws.{payload-here, ubx-alone, ubx-other, ubx-few, ubx-long, ubx-cut, ubx-first-bad, ubx-second-bad, ubx-good}
+use mathlib.Core.List.{_++_}
 use borrow.Author.Needs.{needs}
+use Rattle.frames.specs.Steps.{Claim}
 use Rattle.frames.proofs.ubx.ubx_at.Statement.{statement}
 use Rattle.frames.proofs.ubx.ubx_at.Tie as tie
 
-add-left : tie.Need-add-left
-add-left c = search needs
+claim-requires : tie.Need-claim-requires
+claim-requires c κs = search needs
 
-sub-left : tie.Need-sub-left
-sub-left c = search needs
+enum-told : tie.Need-enum-told
+enum-told c = search needs
+
+enum-known-n : tie.Need-enum-known-n
+enum-known-n c = search needs
+
+enum-known-n-2 : tie.Need-enum-known-n-2
+enum-known-n-2 c = search needs
+
+sub-by-sums : tie.Need-sub-by-sums
+sub-by-sums c = let a = c .before .before .before .before .before .before .args in (subst (Claim (a .held .now ++ a .piece .now) (a .i)) (c .before .n2 .given .1) (c .before .before .before .claim .ensures)) .0
+
+by-sums-requires : tie.Need-by-sums-requires
+by-sums-requires c κs = let a = c .before .before .before .before .before .before .args in let w = subst (Claim (a .held .now ++ a .piece .now) (a .i)) (c .before .n2 .given .1) (c .before .before .before .claim .ensures) in (omega arith, c .before .before .before .before .before .before .pre .2, w .1)
 
 returns : tie.Need-returns
-returns c =
-    let a = c .before .before .before .args in
-    let l = length-append (a .held .now) (a .piece .now) in
-    ubx-alone _ (a .i) (c .before .before .before .pre .2) (omega (arith, l)) (omega (arith, l))
-
-add-byte-at : tie.Need-add-byte-at
-add-byte-at c = search needs
-
-byte-at-requires : tie.Need-byte-at-requires
-byte-at-requires c κs = search needs
+returns c = let a = c .before .before .before .before .before .args in subst (Claim (a .held .now ++ a .piece .now) (a .i)) (c .enum-told .given .1) (c .before .before .claim .ensures)
 
 returns-2 : tie.Need-returns-2
-returns-2 c =
-    let a = c .before .before .before .before .before .args in
-    let l = length-append (a .held .now) (a .piece .now) in
-    ubx-other _ (a .i) (c .before .before .before .before .before .pre .2) (omega (arith, l)) (λ q. c .if2 .taken (c .before .byte-at .ensures .0 ∙ q))
+returns-2 c = let a = c .before .before .before .before .before .before .args in subst (Claim (a .held .now ++ a .piece .now) (a .i)) (c .before .n .given .1) (c .before .before .before .claim .ensures)
 
 returns-3 : tie.Need-returns-3
-returns-3 c =
-    let a = c .before .before .before .before .before .before .args in
-    let l = length-append (a .held .now) (a .piece .now) in
-    ubx-few _ (a .i) (c .before .before .before .before .before .before .pre .2) (sym (c .before .before .byte-at .ensures .0) ∙ c .before .if2 .left) (omega (arith, l))
-
-add-byte-at-2 : tie.Need-add-byte-at-2
-add-byte-at-2 c = search needs
-
-byte-at-requires-2 : tie.Need-byte-at-requires-2
-byte-at-requires-2 c κs = search needs
-
-add-byte-at-3 : tie.Need-add-byte-at-3
-add-byte-at-3 c = search needs
-
-byte-at-requires-3 : tie.Need-byte-at-requires-3
-byte-at-requires-3 c κs = search needs
-
-mul-n : tie.Need-mul-n
-mul-n c = search needs
-
-add-n : tie.Need-add-n
-add-n c = search needs
-
-cast-n : tie.Need-cast-n
-cast-n c = search needs
-
-returns-4 : tie.Need-returns-4
-returns-4 c =
-    let a = c .before .before .before .before .before .before .before .before .before .args in
-    let l = length-append (a .held .now) (a .piece .now) in
-    ubx-long _ (a .i) (c .before .before .before .before .before .before .before .before .before .pre .2) (sym (c .before .before .before .before .before .byte-at .ensures .0) ∙ c .before .before .before .before .if2 .left) (omega (arith, l)) _ (payload-here (c .before .before .byte-at2 .ensures .0) (c .before .byte-at3 .ensures .0)) (omega arith)
-
-add-if5 : tie.Need-add-if5
-add-if5 c = search needs
-
-returns-5 : tie.Need-returns-5
-returns-5 c =
-    let a = c .before .before .before .before .before .before .before .before .before .before .args in
-    let l = length-append (a .held .now) (a .piece .now) in
-    ubx-cut _ (a .i) (c .before .before .before .before .before .before .before .before .before .before .pre .2) (sym (c .before .before .before .before .before .before .byte-at .ensures .0) ∙ c .before .before .before .before .before .if2 .left) (omega (arith, l)) _ (payload-here (c .before .before .before .byte-at2 .ensures .0) (c .before .before .byte-at3 .ensures .0)) (omega arith) (omega (arith, l))
-
-add-sums-of : tie.Need-add-sums-of
-add-sums-of c = search needs
-
-add-sums-of-2 : tie.Need-add-sums-of-2
-add-sums-of-2 c = search needs
-
-sums-of-requires : tie.Need-sums-of-requires
-sums-of-requires c κs = search needs
-
-add-byte-at-4 : tie.Need-add-byte-at-4
-add-byte-at-4 c = search needs
-
-add-byte-at-5 : tie.Need-add-byte-at-5
-add-byte-at-5 c = search needs
-
-byte-at-requires-4 : tie.Need-byte-at-requires-4
-byte-at-requires-4 c κs = search needs
-
-add-t15 : tie.Need-add-t15
-add-t15 c = search needs
-
-returns-6 : tie.Need-returns-6
-returns-6 c =
-    let a = c .before .before .before .before .before .before .before .before .before .before .before .before .before .before .args in
-    let l = length-append (a .held .now) (a .piece .now) in
-    ubx-first-bad _ (a .i) (c .before .before .before .before .before .before .before .before .before .before .before .before .before .before .pre .2) (sym (c .before .before .before .before .before .before .before .before .before .before .byte-at .ensures .0) ∙ c .before .before .before .before .before .before .before .before .before .if2 .left) (omega (arith, l)) _ (payload-here (c .before .before .before .before .before .before .before .byte-at2 .ensures .0) (c .before .before .before .before .before .before .byte-at3 .ensures .0)) (omega arith) (omega (arith, l)) _ _ (c .before .before .before .sums-of .ensures) (λ q. c .if6 .taken (c .before .before .byte-at4 .ensures .0 ∙ q))
-
-add-byte-at-6 : tie.Need-add-byte-at-6
-add-byte-at-6 c = search needs
-
-add-byte-at-7 : tie.Need-add-byte-at-7
-add-byte-at-7 c = search needs
-
-byte-at-requires-5 : tie.Need-byte-at-requires-5
-byte-at-requires-5 c κs = search needs
-
-add-t16 : tie.Need-add-t16
-add-t16 c = search needs
-
-returns-7 : tie.Need-returns-7
-returns-7 c =
-    let a = c .before .before .before .before .before .before .before .before .before .before .before .before .before .before .before .before .before .args in
-    let l = length-append (a .held .now) (a .piece .now) in
-    ubx-second-bad _ (a .i) (c .before .before .before .before .before .before .before .before .before .before .before .before .before .before .before .before .before .pre .2) (sym (c .before .before .before .before .before .before .before .before .before .before .before .before .before .byte-at .ensures .0) ∙ c .before .before .before .before .before .before .before .before .before .before .before .before .if2 .left) (omega (arith, l)) _ (payload-here (c .before .before .before .before .before .before .before .before .before .before .byte-at2 .ensures .0) (c .before .before .before .before .before .before .before .before .before .byte-at3 .ensures .0)) (omega arith) (omega (arith, l)) _ _ (c .before .before .before .before .before .before .sums-of .ensures) (sym (c .before .before .before .before .before .byte-at4 .ensures .0) ∙ c .before .before .before .if6 .left) (λ q. c .if7 .taken (c .before .before .byte-at5 .ensures .0 ∙ q))
-
-add-t10 : tie.Need-add-t10
-add-t10 c = search needs
-
-returns-8 : tie.Need-returns-8
-returns-8 c =
-    let a = c .before .before .before .before .before .before .before .before .before .before .before .before .before .before .before .before .before .args in
-    let l = length-append (a .held .now) (a .piece .now) in
-    ubx-good _ (a .i) (c .before .before .before .before .before .before .before .before .before .before .before .before .before .before .before .before .before .pre .2) (sym (c .before .before .before .before .before .before .before .before .before .before .before .before .before .byte-at .ensures .0) ∙ c .before .before .before .before .before .before .before .before .before .before .before .before .if2 .left) (omega (arith, l)) _ (payload-here (c .before .before .before .before .before .before .before .before .before .before .byte-at2 .ensures .0) (c .before .before .before .before .before .before .before .before .before .byte-at3 .ensures .0)) (omega arith) (omega (arith, l)) _ _ (c .before .before .before .before .before .before .sums-of .ensures) (sym (c .before .before .before .before .before .byte-at4 .ensures .0) ∙ c .before .before .before .if6 .left) (sym (c .before .before .byte-at5 .ensures .0) ∙ c .if7 .left)
+returns-3 c = c .by-sums .ensures
 
 pub ubx-at-spec : {M : Type 1} → statement M
 ubx-at-spec =
     tie.close
     (tie.spec
-    add-left
-    sub-left
+    claim-requires
+    enum-told
+    enum-known-n
+    enum-known-n-2
+    sub-by-sums
+    by-sums-requires
     returns
-    add-byte-at
-    byte-at-requires
     returns-2
-    returns-3
-    add-byte-at-2
-    byte-at-requires-2
-    add-byte-at-3
-    byte-at-requires-3
-    mul-n
-    add-n
-    cast-n
-    returns-4
-    add-if5
-    returns-5
-    add-sums-of
-    add-sums-of-2
-    sums-of-requires
-    add-byte-at-4
-    add-byte-at-5
-    byte-at-requires-4
-    add-t15
-    returns-6
-    add-byte-at-6
-    add-byte-at-7
-    byte-at-requires-5
-    add-t16
-    returns-7
-    add-t10
-    returns-8)
+    returns-3)
