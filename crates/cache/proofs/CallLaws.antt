@@ -1,18 +1,17 @@
 -- Laws of a call: its length, each key at most once, and what every key then shows. Assumes nothing.
 use mathlib.Core.Path.{_≡_, refl, sym, ap, _∙_, subst}
-use mathlib.Core.List.{List, [], _∷_}
+use mathlib.Core.List.{List}
 use mathlib.Core.Option.{Option, none, some}
 use mathlib.Core.Bool.{Bool, true, false, cond, not}
-use Prim.Native.Nat.{ℕ, suc, _≤_, _<_}
-use native.Mathlib.Omega.{arith}
+use Prim.Native.Nat.{_≤_, _<_}
 use lib.ListN.{length, set, length-set}
 use lib.Dec.{ltb}
 use borrow.Author.Tests.{ltb-true, lt-ltb, le-ltb}
-use Rattle.bits.specs.Told.{Told, Accepted, Refused, range, size}
+use Rattle.bits.specs.Told.{Accepted}
 use Rattle.bits.specs.Outcome.{outcome}
 use Rattle.bits.specs.Told.{full, absent}
-use Rattle.cache.specs.Cache.{Key, Value, same, first, Call, Store, Remove, Lookup, Answer, tell, fits, storeAt, removeAt}
-use Rattle.cache.proofs.Slots.{Out, Slot, free, held, isFree, has, find, act, step}
+use Rattle.cache.specs.Cache.{Key, Value, same, first, Call, Store, Remove, Lookup, Answer, tell, storeAt, removeAt}
+use Rattle.cache.proofs.Slots.{Out, Slot, free, held, isFree, has, find, act}
 use Rattle.cache.proofs.FindLaws.{Once, place-none, place-some, find-replaced, once-replaced, find-filled, once-filled, find-freed, once-freed}
 
 -- ---- what a call does to what every key shows

@@ -1,16 +1,16 @@
 -- Each case of the code: the tests of a key, a value and an entry, and the cases of each call. Assumes nothing.
-use mathlib.Core.Path.{_≡_, refl, sym, ap, ap₂, _∙_}
+use mathlib.Core.Path.{_≡_, refl, ap, ap₂, _∙_}
 use mathlib.Core.List.{List, [], _∷_}
-use mathlib.Core.Option.{Option, none, some}
-use mathlib.Core.Bool.{Bool, true, false, cond, not, _&&_, false≢true}
-use Prim.Native.Nat.{ℕ, zero, suc, _+_, _-_, _%_, _^_, _≤_, _<_}
+use mathlib.Core.Option.{none, some}
+use mathlib.Core.Bool.{Bool, true, false, cond, _&&_, false≢true}
+use Prim.Native.Nat.{ℕ, suc, _+_, _-_, _^_, _≤_, _<_}
 use native.Mathlib.Omega.{arith}
 use lib.ListN.{length, set, getD}
 use lib.Dec.{ltb, eqb}
 use borrow.Author.Tests.{ltb-true, ltb-false, lt-ltb, le-ltb, eq-eqb, ne-eqb}
-use Rattle.bits.specs.Told.{Told, Accepted, range, size, full, absent}
-use Rattle.bits.specs.Outcome.{Outcome, outcome}
-use Rattle.cache.specs.Cache.{Key, key, same, Value, value, fitsKey, fitsValue, free, keyIn, widened, valueIn, hasKey, entryOf, blank, first, find, Store, Remove, Lookup, fits, storeAt, removeAt, tell, act, step}
+use Rattle.bits.specs.Told.{Accepted, range, size, full, absent}
+use Rattle.bits.specs.Outcome.{outcome}
+use Rattle.cache.specs.Cache.{Key, key, same, Value, value, fitsKey, fitsValue, free, keyIn, widened, valueIn, hasKey, entryOf, blank, first, find, Store, Remove, Lookup, fits, storeAt, removeAt, act, step}
 
 both : (a b : Bool) → a && b ≡ true → (a ≡ true) × (b ≡ true)
 both true b e = (refl, e)

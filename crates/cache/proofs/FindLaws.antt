@@ -1,7 +1,7 @@
 -- Laws of looking up: what is found after an entry was replaced, filled or freed. Assumes nothing.
-use mathlib.Core.Path.{_≡_, refl, sym, ap, _∙_, subst}
+use mathlib.Core.Path.{_≡_, refl, sym, ap, _∙_}
 use mathlib.Core.List.{List, [], _∷_}
-use mathlib.Core.Option.{Option, none, some}
+use mathlib.Core.Option.{none, some}
 use mathlib.Core.Bool.{Bool, true, false, cond}
 use Prim.Native.Nat.{ℕ, suc, _≤_, _<_}
 use native.Mathlib.Omega.{arith}
@@ -9,7 +9,7 @@ use lib.ListN.{length, set}
 use Rattle.cache.specs.Cache.{Key, Value, same, first}
 use Rattle.cache.proofs.Slots.{Slot, free, held, isFree, has, find}
 use Rattle.cache.proofs.Slots.{NoneHeld}
-use Rattle.cache.proofs.KeyLaws.{same-tells, same-self, same-swap, same-left, apart, either-order, again}
+use Rattle.cache.proofs.KeyLaws.{same-tells, same-swap, same-left, apart, either-order, again}
 
 some-none : {A : Type 0} (v : A) → some v ≡ none → ⊥
 some-none v e = let z : _≡_ {A = ℕ} 0 1 = cc in omega arith

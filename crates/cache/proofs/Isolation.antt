@@ -5,10 +5,10 @@ use mathlib.Core.Option.{Option, none, some}
 use mathlib.Core.Bool.{Bool, true, false, cond, not, _&&_, false≢true}
 use Prim.Native.Nat.{ℕ, zero, suc, _+_, _-_, _%_, _^_, _≤_, _<_}
 use native.Mathlib.Omega.{arith}
-use lib.ListN.{length, set, getD}
+use lib.ListN.{length, set}
 use lib.Dec.{ltb, eqb}
 use borrow.Author.Tests.{ltb-true, ltb-false, lt-ltb, le-ltb}
-use Rattle.bits.specs.Told.{Told, Accepted, range, size, full, absent}
+use Rattle.bits.specs.Told.{Accepted, range, size, full, absent}
 use Rattle.bits.specs.Outcome.{Outcome, outcome}
 use Rattle.cache.specs.Cache.{Key, key, same, Value, value, fitsKey, fitsValue, free, keyIn, widened, valueIn, hasKey, entryOf, blank, first, find, Call, Store, Remove, Lookup, caller, fits, Answer, storeAt, removeAt, tell, act, step}
 use Rattle.cache.specs.Runs.{callsOf, answersTo, AllFree, NoFull}

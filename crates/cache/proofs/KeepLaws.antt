@@ -5,7 +5,6 @@ use mathlib.Core.Option.{Option, none, some}
 use Prim.Native.Nat.{ℕ}
 use lib.ListN.{length, set}
 use lib.Dec.{ltb}
-use Rattle.bits.specs.Told.{range, size, full, absent}
 use Rattle.bits.specs.Outcome.{Outcome, outcome}
 use Rattle.bits.proofs.OutcomeLaws.{Keeps, accepted-keeps, refused-keeps}
 use Rattle.cache.specs.Cache.{Value, Call, Store, Remove, Lookup, hasKey, free, first, entryOf, blank, find, tell, fits, storeAt, removeAt, act, step}

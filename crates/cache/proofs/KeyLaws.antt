@@ -1,9 +1,9 @@
 -- Laws of keys: the test of two keys tells whether they are equal. Assumes nothing.
-use mathlib.Core.Path.{_≡_, refl, sym, ap, _∙_, subst}
+use mathlib.Core.Path.{_≡_, refl, sym, ap, _∙_}
 use mathlib.Core.Bool.{Bool, true, false, cond, _&&_, false≢true, true≢false}
 use Prim.Native.Nat.{ℕ}
 use lib.Dec.{eqb}
-use borrow.Author.Tests.{eq-eqb, ne-eqb, eqb-true, eqb-false}
+use borrow.Author.Tests.{eq-eqb, eqb-true}
 use Rattle.cache.specs.Cache.{Key, key, same, providerOf}
 
 both : (a b : Bool) → a && b ≡ true → (a ≡ true) × (b ≡ true)

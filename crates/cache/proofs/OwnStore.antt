@@ -1,13 +1,13 @@
 -- Over slots, a provider's answers are those of a store of its own, whatever others do between. Assumes nothing.
 use mathlib.Core.Path.{_≡_, refl, sym, ap, ap₂, _∙_, subst}
 use mathlib.Core.List.{List, [], _∷_}
-use mathlib.Core.Option.{Option, none, some}
+use mathlib.Core.Option.{Option, none}
 use mathlib.Core.Bool.{Bool, true, false, cond, not}
 use Prim.Native.Nat.{ℕ}
 use lib.ListN.{length}
 use lib.Dec.{ltb, eqb}
 use borrow.Author.Tests.{eqb-true, eqb-false}
-use Rattle.bits.specs.Told.{Told, Accepted, Refused, range, size}
+use Rattle.bits.specs.Told.{range, size}
 use Rattle.bits.specs.Outcome.{outcome}
 use Rattle.bits.specs.Told.{full}
 use Rattle.cache.specs.Cache.{Key, Value, same, providerOf, Call, Store, Remove, Lookup, caller, Answer, fits}

@@ -1,5 +1,4 @@
 -- The cache over slots, free or held, in which entries say no more than they mean: what the laws are proved of. Assumes nothing.
-use mathlib.Core.Path.{_≡_}
 use mathlib.Core.List.{List, [], _∷_}
 use mathlib.Core.Option.{Option, none, some}
 use mathlib.Core.Bool.{Bool, true, false, cond, not}

@@ -1,9 +1,9 @@
 -- An answer of the code is fixed by what it tells, and so by its statement. Assumes nothing.
 use mathlib.Core.Path.{_≡_, refl}
-use mathlib.Core.Option.{Option, none, some}
+use mathlib.Core.Option.{none, some}
 use mathlib.Core.Bool.{cond}
 use lib.Dec.{eqb}
-use Rattle.bits.specs.Told.{Told, Accepted, Refused, OneToOne}
+use Rattle.bits.specs.Told.{Accepted, Refused, OneToOne}
 use Rattle.bits.proofs.ToldLaws.{found-again}
 use Rattle.cache.specs.Cache.{Value, value, Answer}
 use Rattle.cache.specs.Answers.{toldStored, toldRemoved, toldFound}

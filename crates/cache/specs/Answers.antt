@@ -1,6 +1,6 @@
 -- What each answer of the code tells. Assumes nothing.
-use mathlib.Core.Option.{Option, none, some}
-use Rattle.bits.specs.Told.{Told, Accepted, range, size, full, absent}
+use mathlib.Core.Option.{none, some}
+use Rattle.bits.specs.Told.{Accepted, range, size, full, absent}
 use Rattle.cache.specs.Cache.{Key, key, Value, value, Answer}
 use Rattle.cache.specs.declared.cache.Key as code
 use Rattle.cache.specs.declared.cache.Stored.{Stored}

@@ -1,16 +1,16 @@
 -- What a walk tells and writes is what the cache's call answers and leaves. Assumes nothing.
 use mathlib.Core.Path.{_≡_, refl, sym, ap, ap₂, _∙_}
 use mathlib.Core.List.{List, [], _∷_, map}
-use mathlib.Core.Option.{Option, none, some}
-use mathlib.Core.Bool.{Bool, true, false, cond, _&&_, true≢false}
-use Prim.Native.Nat.{ℕ, zero, suc, _+_, _^_, _≤_, _<_}
+use mathlib.Core.Option.{Option}
+use mathlib.Core.Bool.{Bool, true, false, cond, _&&_}
+use Prim.Native.Nat.{ℕ, zero, suc, _^_, _≤_, _<_}
 use native.Mathlib.Omega.{arith}
 use lib.ListN.{length, set, getD, length-map}
 use lib.Seq.{set-out}
 use lib.Dec.{ltb}
 use borrow.Author.Tests.{ltb-true, ltb-false, eq-eqb, ne-eqb}
 use Rattle.bits.specs.Outcome.{Outcome, outcome}
-use Rattle.cache.specs.Cache.{Key, Value, value, fitsKey, fitsValue, free, hasKey, first, widened, entryOf, blank, Call, Store, Remove, Lookup, step}
+use Rattle.cache.specs.Cache.{Key, Value, fitsKey, fitsValue, free, hasKey, first, widened, entryOf, blank, Store, Remove, Lookup, step}
 use Rattle.cache.proofs.CodeLaws.{store-size, store-key, store-value, replaced, filled, is-full, remove-size, remove-key, freed, nothing-there, lookup-size, lookup-key, found-there, not-found}
 use Rattle.entries.specs.Entries.{numbersOf, keyOf, valueOf, toldAnswer}
 use Rattle.entries.specs.Walk.{walkFrom, placeOf, nowhere, heldAnswer, toldOf, startOf, askToStore, askFor}

@@ -1,6 +1,6 @@
 -- The law of isolation, of the calls over a list of entries. Assumes nothing.
-use mathlib.Core.Path.{_≡_, sym, ap, ap₂, subst, _∙_}
-use mathlib.Core.List.{List, [], _∷_, map}
+use mathlib.Core.Path.{_≡_, sym, ap, subst, _∙_}
+use mathlib.Core.List.{List, _∷_, map}
 use mathlib.Core.Bool.{cond}
 use mathlib.Core.Option.{Option}
 use Prim.Native.Nat.{ℕ}

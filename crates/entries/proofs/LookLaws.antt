@@ -1,15 +1,13 @@
 -- The cases of a look at one entry, of the place that is found, and of what is told. Assumes nothing.
-use mathlib.Core.Path.{_≡_, refl, sym, ap, ap₂, _∙_}
-use mathlib.Core.Bool.{Bool, true, false, cond, not, _&&_}
+use mathlib.Core.Path.{_≡_, sym, ap, ap₂}
+use mathlib.Core.Bool.{Bool, true, false, cond, _&&_}
 use Prim.Native.Nat.{ℕ, _≤_, _<_}
-use lib.Dec.{ltb, eqb}
 use borrow.Author.Tests.{lt-ltb, le-ltb, eq-eqb, ne-eqb}
 use Rattle.cache.specs.Cache.{fitsKey, fitsValue, free, hasKey, widened}
 use Rattle.entries.specs.Entries.{numbersOf, keyOf, valueOf}
 use Rattle.entries.specs.Walk.{longAt, heldAt, freeAt, heldIn, freeIn, lookOf, placeOf, nowhere, heldAnswer, toldOf, startOf, askToStore, askFor}
 use Rattle.entries.specs.declared.Entry.{Entry}
 use Rattle.entries.specs.declared.Seen.{Seen}
-use Rattle.entries.specs.declared.Answer.{Answer}
 use Rattle.entries.specs.declared.Answer.the-variants.{Done, Value, Size, Range, Full, Absent}
 
 module _ (s : Seen) (e : Entry) (i : ℕ) where

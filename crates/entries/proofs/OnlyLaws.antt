@@ -1,12 +1,12 @@
 -- Two answers that the statement of a call allows are equal, and so are the lists of entries that it leaves. Assumes nothing.
-use mathlib.Core.Path.{_≡_, refl, sym, ap, ap₂, _∙_}
+use mathlib.Core.Path.{_≡_, refl, sym, ap, _∙_}
 use mathlib.Core.List.{List, [], _∷_, map}
 use mathlib.Core.Option.{Option, none, some}
 use mathlib.Core.Bool.{cond}
 use Prim.Native.Nat.{ℕ}
 use lib.Dec.{eqb}
 use lib.ListN.{getD}
-use Rattle.bits.specs.Told.{Told, Accepted, Refused, OneToOne}
+use Rattle.bits.specs.Told.{Accepted, Refused, OneToOne}
 use Rattle.bits.specs.Outcome.{Outcome, outcome}
 use Rattle.bits.proofs.ToldLaws.{found-again}
 use Rattle.cache.specs.Cache.{Value, value}

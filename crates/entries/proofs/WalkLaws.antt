@@ -1,14 +1,14 @@
 -- Going along a list of entries, one after the other: what is found. Assumes nothing.
 use mathlib.Core.Path.{_≡_, refl, sym, ap, _∙_}
 use mathlib.Core.List.{List, [], _∷_, map}
-use mathlib.Core.Bool.{Bool, true, false, cond, true≢false}
+use mathlib.Core.Bool.{Bool, true, false, cond}
 use Prim.Native.Nat.{ℕ, suc, _+_, _≤_, _<_}
 use native.Mathlib.Numerals.{add-one}
 use native.Mathlib.Omega.{arith}
 use lib.ListN.{length, getD, drop, drop-of-length-le}
 use lib.Seq.{drop-cons}
 use lib.Dec.{ltb}
-use borrow.Author.Tests.{ltb-true, ltb-false, lt-ltb, le-ltb}
+use borrow.Author.Tests.{ltb-true, ltb-false, le-ltb}
 use Rattle.cache.specs.Cache.{Key, free, hasKey, first}
 use Rattle.cache.proofs.FirstLaws.{first-here, first-on}
 use Rattle.entries.proofs.LookLaws.{look-long}
@@ -56,11 +56,6 @@ module _ (s : Seen) (e : Entry) (i : ℕ) where
   keyed-stays true u = refl
   keyed-stays false true = refl
   keyed-stays false false = refl
-
-  vacant-stays : (h k : Bool) → vacant (cond h s (cond k (heldAt s e i) s)) ≡ vacant s
-  vacant-stays true k = refl
-  vacant-stays false true = refl
-  vacant-stays false false = refl
 
   apart-held : (h k : Bool) → apart (cond h s (cond k (heldAt s e i) s)) ≡ apart s
   apart-held true k = refl
