@@ -5,6 +5,7 @@ pub mod Header1059
 pub mod Header1230
 pub mod Read1059Laws
 pub mod Read1230Laws
+pub mod BehindLaws
 pub mod Write1059Laws
 pub mod Write1230Laws
 pub mod BesideLaws

@@ -1,8 +1,7 @@
 -- A call that writes message 1230: which answer is given when. Assumes nothing.
-use mathlib.Core.Path.{_≡_, refl, sym, ap, _∙_}
+use mathlib.Core.Path.{_≡_, sym, ap, _∙_}
 use mathlib.Core.Bool.{true, false}
 use mathlib.Core.List.{List, [], _∷_}
-use mathlib.Core.Logic.{⊎-elim}
 use Prim.Native.Nat.{ℕ, _≤_, _<_}
 use native.Mathlib.Omega.{arith}
 use borrow.Author.Tests.{lt-ltb, le-ltb, eq-eqb, ne-eqb}
@@ -10,7 +9,7 @@ use lib.ListN.{length}
 use lib.IntN.{ℤ}
 use types.Run.{OneOf}
 use denote.Enum.Declared.{tagOf}
-use Rattle.bits.specs.Told.{Told, Accepted, size, range, room}
+use Rattle.bits.specs.Told.{Told, size, range, room}
 use Rattle.bits.specs.Outcome.{Outcome, outcome}
 use Rattle.formats.specs.Put.{RoomFor, IsPut}
 use Rattle.messages.specs.Answers.{toldBlock}
@@ -25,16 +24,7 @@ use Rattle.whole.specs.Headers.{headerFits1230, fields1230}
 use Rattle.whole.specs.Whole.{raised, before, fronted}
 use Rattle.whole.specs.Messages.{refused1230, writeMessage1230}
 use Rattle.whole.proofs.Header1230.{front-bits}
-
--- the other variants: neither the first nor the eighth
-none-of : {n : ℕ} → OneOf (1 ∷ 2 ∷ 3 ∷ 4 ∷ 5 ∷ 6 ∷ 8 ∷ []) n → (n ≡ 0 → ⊥) × (n ≡ 7 → ⊥)
-none-of o =
-    ⊎-elim (λ p. (λ e. omega (arith, p, e), λ e. omega (arith, p, e)))
-    (λ a. ⊎-elim (λ p. (λ e. omega (arith, p, e), λ e. omega (arith, p, e)))
-    (λ b. ⊎-elim (λ p. (λ e. omega (arith, p, e), λ e. omega (arith, p, e)))
-    (λ c. ⊎-elim (λ p. (λ e. omega (arith, p, e), λ e. omega (arith, p, e)))
-    (λ d. ⊎-elim (λ p. (λ e. omega (arith, p, e), λ e. omega (arith, p, e)))
-    (λ f. ⊎-elim (λ p. (λ e. omega (arith, p, e), λ e. omega (arith, p, e))) (λ p. (λ e. omega (arith, p, e), λ e. omega (arith, p, e))) f) d) c) b) a) o
+use Rattle.whole.proofs.BehindLaws.{tells-room, tells-end, tells-other}
 
 module _ (s : List ℕ) (h : Header1230) (gs : List ℕ) (zs : List ℤ) where
   abbrev call : Outcome ℕ (List ℕ)
@@ -67,7 +57,7 @@ module _ (s : List ℕ) (h : Header1230) (gs : List ℕ) (zs : List ℤ) where
 
           module _ (w : BlockWritten) {u : List ℕ} (o : outcome (toldBlock w) u ≡ write1230 s 28 gs zs) where
             pub room-carries : {n m : ℕ} → w ≡ W.Room n → m ≡ raised 28 n → outcome (room m) u ≡ call
-            room-carries r q = ap (λ (m : ℕ). outcome (room m) u) q ∙ ap (λ (x : BlockWritten). before 28 (fields1230 h) (toldBlock x) u) (sym r) ∙ goes-on o
+            room-carries r q = tells-room 28 (fields1230 h) w u r q ∙ goes-on o
 
             pub front-fits : {q : ℕ} → w ≡ W.End q → RoomFor u 0 (fields1230 h)
             front-fits r =
@@ -77,22 +67,7 @@ module _ (s : List ℕ) (h : Header1230) (gs : List ℕ) (zs : List ℤ) where
                 record { few = omega (arith, same, k0); within = omega (arith, same, b, a .within) }
 
             pub written : {q : ℕ} → w ≡ W.End q → {v : List ℕ} {p : ℕ} → IsPut u 0 (fields1230 h) v p → outcome (toldBlock w) v ≡ call
-            written {q} r {v} dd =
-                ap (λ (x : BlockWritten). outcome (toldBlock x) v) r
-                ∙ ap (λ (x : List ℕ). outcome (Accepted q) x) (dd .left)
-                ∙ ap (λ (x : BlockWritten). before 28 (fields1230 h) (toldBlock x) u) (sym r)
-                ∙ goes-on o
+            written r d = tells-end 28 (fields1230 h) w u r d ∙ goes-on o
 
             pub other : OneOf (1 ∷ 2 ∷ 3 ∷ 4 ∷ 5 ∷ 6 ∷ 8 ∷ []) (tagOf the-type w) → outcome (toldBlock w) u ≡ call
-            other k = same w k ∙ goes-on o
-              where
-                same : (x : BlockWritten) → OneOf (1 ∷ 2 ∷ 3 ∷ 4 ∷ 5 ∷ 6 ∷ 8 ∷ []) (tagOf the-type x) → outcome (toldBlock x) u ≡ before 28 (fields1230 h) (toldBlock x) u
-                same (W.End q) k = absurd (none-of k .0 refl)
-                same W.Size k = refl
-                same (W.Satellite i) k = refl
-                same (W.Signal i) k = refl
-                same (W.Range i) k = refl
-                same (W.TooMany i) k = refl
-                same (W.Duplicate i) k = refl
-                same (W.Room n) k = absurd (none-of k .1 refl)
-                same W.Kind k = refl
+            other k = tells-other 28 (fields1230 h) w u k ∙ goes-on o
