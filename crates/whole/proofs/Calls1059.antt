@@ -2,6 +2,7 @@
 use mathlib.Core.Path.{_≡_, refl, sym, ap, _∙_}
 use mathlib.Core.Bool.{true, not}
 use mathlib.Core.List.{List, [], map}
+use mathlib.Core.Logic.{inr}
 use Prim.Native.Nat.{ℕ, _+_, _-_, _*_, _≤_}
 use native.Mathlib.Omega.{arith}
 use borrow.Author.Tests.{not-false}
@@ -10,9 +11,10 @@ use lib.IntN.{ℤ}
 use lib.Dec.{eqb, ltb}
 use Rattle.bits.specs.Told.{Told, Accepted}
 use Rattle.bits.specs.Outcome.{Outcome, outcome}
-use Rattle.bits.specs.Field.{reading}
-use Rattle.bits.specs.Fields.{putAll, Holds, Bytes}
+use Rattle.bits.specs.Field.{bitAt, reading}
+use Rattle.bits.specs.Fields.{total, putAll, Holds, Bytes}
 use Rattle.bits.specs.Onto.{onto}
+use Rattle.bits.proofs.FieldsLaws.{put-all-outside}
 use Rattle.messages.specs.Records.{satelliteOf, signalOf1059, biasOf1059, records1059}
 use Rattle.messages.specs.Read1059.{read1059}
 use Rattle.messages.specs.Layout1059.{Sat}
@@ -61,6 +63,17 @@ module _ (e : ℕ) (s : List ℕ) (h : Header1059) (sats gs : List ℕ) (zs : Li
         written = f .0;
         left = ap (λ (o : Outcome ℕ (List ℕ)). o .areas) (g .all) ∙ f .1;
       }
+
+  -- the bits behind the message stay
+  pub leaves-message-1059 : {q : ℕ} → writeMessage1059 e s h sats gs zs .answer ≡ Accepted q → (k : ℕ) → q ≤ k → bitAt (writeMessage1059 e s h sats gs zs .areas) k ≡ bitAt s k
+  leaves-message-1059 {q} accepted k past =
+      let w = call-wrote accepted in
+      let x = block.call-accepted e s 61 sats gs zs (w .written) in
+      let o = leaves-1059 s 61 e sats gs zs in
+      let end : 61 + total (blockFields (records1059 sats gs zs)) ≡ q = cc (w .written, ap (λ (o : Outcome ℕ (List ℕ)). o .answer) (block.call-written e s 61 sats gs zs x)) in
+      ap (λ (l : List ℕ). bitAt l k) (w .left)
+      ∙ put-all-outside (write1059 e s 61 sats gs zs .areas) 0 (fields1059 h) k (omega (arith, front-bits h, o .long, x .within)) (inr (omega (arith, front-bits h, end, past)))
+      ∙ o .outside (w .written) k (inr past)
 
   pub reads-back-message-1059 : {q : ℕ} → Bytes s → writeMessage1059 e s h sats gs zs .answer ≡ Accepted q
       → (a b : List ℕ) (c : List ℤ) → length a ≡ length b → length a ≡ length c → length sats ≤ length a

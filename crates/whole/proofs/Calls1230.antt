@@ -2,6 +2,7 @@
 use mathlib.Core.Path.{_≡_, refl, sym, ap, _∙_}
 use mathlib.Core.Bool.{true, not}
 use mathlib.Core.List.{List, [], map}
+use mathlib.Core.Logic.{inr}
 use Prim.Native.Nat.{ℕ, _+_, _-_, _*_, _≤_}
 use native.Mathlib.Omega.{arith}
 use borrow.Author.Tests.{not-false}
@@ -10,9 +11,10 @@ use lib.IntN.{ℤ}
 use lib.Dec.{eqb, ltb}
 use Rattle.bits.specs.Told.{Told, Accepted}
 use Rattle.bits.specs.Outcome.{Outcome, outcome}
-use Rattle.bits.specs.Field.{reading}
-use Rattle.bits.specs.Fields.{putAll, Holds, Bytes}
+use Rattle.bits.specs.Field.{bitAt, reading}
+use Rattle.bits.specs.Fields.{total, putAll, Holds, Bytes}
 use Rattle.bits.specs.Onto.{onto}
+use Rattle.bits.proofs.FieldsLaws.{put-all-outside}
 use Rattle.messages.specs.Records.{signalOf1230, biasOf1230, records1230}
 use Rattle.messages.specs.I16.{OfI16}
 use Rattle.messages.specs.Read1230.{read1230}
@@ -56,6 +58,17 @@ module _ (s : List ℕ) (h : Header1230) (gs : List ℕ) (zs : List ℤ) where
         written = f .0;
         left = ap (λ (o : Outcome ℕ (List ℕ)). o .areas) (g .all) ∙ f .1;
       }
+
+  -- the bits behind the message stay
+  pub leaves-message-1230 : {q : ℕ} → writeMessage1230 s h gs zs .answer ≡ Accepted q → (k : ℕ) → q ≤ k → bitAt (writeMessage1230 s h gs zs .areas) k ≡ bitAt s k
+  leaves-message-1230 {q} accepted k past =
+      let w = call-wrote accepted in
+      let x = block.call-accepted s 28 gs zs (w .written) in
+      let o = leaves-1230 s 28 gs zs in
+      let end : 28 + total (blockFields (records1230 gs zs)) ≡ q = cc (w .written, ap (λ (o : Outcome ℕ (List ℕ)). o .answer) (block.call-written s 28 gs zs x)) in
+      ap (λ (l : List ℕ). bitAt l k) (w .left)
+      ∙ put-all-outside (write1230 s 28 gs zs .areas) 0 (fields1230 h) k (omega (arith, front-bits h, o .long, x .within)) (inr (omega (arith, front-bits h, end, past)))
+      ∙ o .outside (w .written) k (inr past)
 
   pub reads-back-message-1230 : {q : ℕ} → Bytes s → OfI16 zs → writeMessage1230 s h gs zs .answer ≡ Accepted q
       → (b : List ℕ) (c : List ℤ) → length b ≡ length c → length gs ≤ length b
