@@ -1,8 +1,8 @@
-// The listing of frames where many candidates fail: one window goes with the walk, and a good frame does not end it.
+// The listing of frames where many candidates fail: windows go with the walk, and a good frame does not end them.
 ghost use mathlib.Core.Path.{_≡_};
 ghost use mathlib.Core.List.{_++_};
-ghost use Prim.Native.Nat.{_+_, _-_};
-ghost use lib.ListN.{length, drop};
+ghost use Prim.Native.Nat.{_+_, _-_, _<_};
+ghost use lib.ListN.{length, getD, drop};
 ghost use Rattle.frames.specs.Scan.{scan};
 ghost use Rattle.frames.specs.Framing.{decide};
 ghost use Rattle.frames.specs.Modes.{framingOf};
@@ -10,10 +10,11 @@ ghost use Rattle.frames.specs.ListSteps.{listOn, Sizes, Within};
 use crate::list;
 use crate::list::Listing;
 use crate::many;
+use crate::many::Windows;
 use crate::scan;
 use crate::scan::Candidate;
 
-// The listing goes on from what it has come to so far. The first window is a small one, since many frames may stand near.
+// The listing goes on from what it has come to so far. Only a listing of both kinds has room for the sums of UBX.
 pub(crate) fn list_on(
     held: &[u8],
     piece: &[u8],
@@ -26,6 +27,28 @@ pub(crate) fn list_on(
     requires { ⌜ Sizes (length (now held)) (length (now piece)) room (now starts) (now lengths) × Within (length (now held) + length (now piece)) room reached ⌝ }
     ensures { λ r. ⌜ (r, now (starts .exit), now (lengths .exit)) ≡ listOn (room - reached .count) (reached .count) (reached .stop) (reached .framed) (scan (decide (framingOf mode)) (drop (reached .stop) (now (held .entry) ++ now (piece .entry))) .items) (now (starts .entry)) (now (lengths .entry)) ⌝ }
 {
+    if mode == 0 {
+        let mut none = [0u32; 1];
+        return list_by(held, piece, mode, room, reached, &mut none, starts, lengths);
+    }
+    let mut runs = [0u32; 4097];
+    list_by(held, piece, mode, room, reached, &mut runs, starts, lengths)
+}
+
+// The same, by windows. The first one is small, since many frames may stand near.
+fn list_by(
+    held: &[u8],
+    piece: &[u8],
+    mode: u32,
+    room: usize,
+    reached: Listing,
+    runs: &mut [u32],
+    starts: &mut [u32],
+    lengths: &mut [u32],
+) -> Listing
+    requires { ⌜ Sizes (length (now held)) (length (now piece)) room (now starts) (now lengths) × Within (length (now held) + length (now piece)) room reached × (0 < length (now runs)) × (getD (now runs) 0 0 ≡ 0) × ((mode ≡ 0 → ⊥) → length (now runs) ≡ 4097) ⌝ }
+    ensures { λ r. ⌜ (r, now (starts .exit), now (lengths .exit)) ≡ listOn (room - reached .count) (reached .count) (reached .stop) (reached .framed) (scan (decide (framingOf mode)) (drop (reached .stop) (now (held .entry) ++ now (piece .entry))) .items) (now (starts .entry)) (now (lengths .entry)) ⌝ }
+{
     let all = held.len() + piece.len();
     let mut i = reached.stop;
     let mut k = reached.count;
@@ -34,15 +57,26 @@ pub(crate) fn list_on(
     let near = many::open(held, piece, i, 1536, &mut sums);
     let mut base = near.base;
     let mut stop = near.stop;
+    let mut ubx_base = i;
+    let mut ubx_stop = i;
     while k < room {
         let j = scan::next_start(held, piece, i, mode);
         if all <= j {
             return list::ended(k, j, framed, false);
         }
-        let window = many::cover(held, piece, base, stop, j, &mut sums);
-        base = window.base;
-        stop = window.stop;
-        match many::candidate_in(held, piece, base, stop, j, mode, &sums) {
+        let at = Windows {
+            base,
+            stop,
+            ubx_base,
+            ubx_stop,
+        };
+        let judged = many::judge(held, piece, at, j, mode, &mut sums, runs);
+        base = judged.windows.base;
+        stop = judged.windows.stop;
+        ubx_base = judged.windows.ubx_base;
+        ubx_stop = judged.windows.ubx_stop;
+        let found = judged.candidate;
+        match found {
             Candidate::Incomplete => {
                 return list::ended(k, j, framed, false);
             }

@@ -95,14 +95,7 @@ fn find_by(
 
 // The window that serves a candidate at place i: the one at hand, if it reaches as far as a candidate can; else a new one
 // from there on.
-pub(crate) fn cover(
-    held: &[u8],
-    piece: &[u8],
-    base: usize,
-    stop: usize,
-    i: usize,
-    sums: &mut [u32],
-) -> Window
+fn cover(held: &[u8], piece: &[u8], base: usize, stop: usize, i: usize, sums: &mut [u32]) -> Window
     requires { ⌜ (i < length (now held) + length (now piece)) × (length (now held) + length (now piece) < 2 ^ 64) × (length (now sums) ≡ 4097) × (base ≤ i) × Tails (now held ++ now piece) (now sums) base stop ⌝ }
     ensures { λ r. ⌜ (r .base ≤ i) × (i + min (length (now (held .entry)) + length (now (piece .entry)) - i) 1029 ≤ r .stop) × Tails (now (held .entry) ++ now (piece .entry)) (now (sums .exit)) (r .base) (r .stop) × (length (now (sums .exit)) ≡ 4097) ⌝ }
 {
@@ -130,16 +123,16 @@ pub(crate) fn open(held: &[u8], piece: &[u8], i: usize, size: usize, sums: &mut 
 
 // The windows at hand, of the checksums and of the sums of UBX: of each its first place, and the place behind its last byte.
 pub(crate) struct Windows {
-    base: usize,
-    stop: usize,
-    ubx_base: usize,
-    ubx_stop: usize,
+    pub base: usize,
+    pub stop: usize,
+    pub ubx_base: usize,
+    pub ubx_stop: usize,
 }
 
 // What the check of a start byte says, and the windows that are then at hand.
 pub(crate) struct Judged {
-    candidate: Candidate,
-    windows: Windows,
+    pub candidate: Candidate,
+    pub windows: Windows,
 }
 
 // The check of the start byte at place i, by the window of its kind.
@@ -272,28 +265,6 @@ fn sums_in(
         return Candidate::NotValid(n + 8);
     }
     Candidate::Good(n + 8)
-}
-
-// The check of the start byte at place i: of a D3 by the window, of a B5 by its own sums.
-pub(crate) fn candidate_in(
-    held: &[u8],
-    piece: &[u8],
-    base: usize,
-    stop: usize,
-    i: usize,
-    mode: u32,
-    sums: &[u32],
-) -> Candidate
-    requires { ⌜ (i < length (now held) + length (now piece)) × (length (now held) + length (now piece) < 2 ^ 64) × (startsIn mode (getD (now held ++ now piece) i 0) ≡ true) × (base ≤ i) × (i + min (length (now held) + length (now piece) - i) 1029 ≤ stop) × Tails (now held ++ now piece) (now sums) base stop ⌝ }
-    ensures { λ r. ⌜ r ≡ candidate (framingOf mode) (drop i (now (held .entry) ++ now (piece .entry))) ⌝ }
-{
-    if mode == 0 {
-        return rtcm_in(held, piece, base, stop, i, sums);
-    }
-    if scan::byte_at(held, piece, i) == 0xB5 {
-        return ubx::ubx_at(held, piece, i);
-    }
-    rtcm_in(held, piece, base, stop, i, sums)
 }
 
 // The frame check of the D3 at place i, by the window.
