@@ -7,6 +7,7 @@ use native.Mathlib.Omega.{arith}
 use native.Mathlib.Nat.{not-suc-le-zero}
 use borrow.Author.Tests.{ltb-true, lt-ltb, le-ltb}
 use lib.IntN.{ℤ, pos, negsuc, _-ℤ_}
+use lib.Dec.{ltb}
 use lib.Pow.{pow-mono}
 use lib.Signed.{mag, ltZ}
 use mir.Syntax.{w16, w64}
@@ -51,12 +52,6 @@ pub all-fit : (z : ℤ) → mag z < 2 ^ 15 → fitsTwos 16 z ≡ true
 all-fit (pos n) h = lt-ltb n (2 ^ 15) h
 all-fit (negsuc n) h = lt-ltb n (2 ^ 15) h
 
--- a cast to 64 bits fits, and keeps the number
-pub widen : (z : ℤ) → SFits w16 z → (SFits w64 (toZ w16 (ofZ w16 z))) × (toZ w64 (ofZ w64 (toZ w16 (ofZ w16 z))) ≡ z)
-widen z g =
-    let f : SFits w64 z = record { sfits = omega (arith, g .sfits) } in
-    rw (toZ-ofZ w16 z g) (f, toZ-ofZ w64 z f)
-
 -- the range of 14 bits, below zero and else
 pub fits-below : (z : ℤ) → SFits w16 z → ltZ (toZ w16 (ofZ w16 z)) (pos 0) ≡ true → ltZ (negsuc 8192) (toZ w16 (ofZ w16 z)) ≡ fitsTwos 14 z
 fits-below (pos n) f e = absurd (not-suc-le-zero (ltb-true n 0 (rw (toZ-ofZ w16 (pos n) f) at e)))
@@ -72,20 +67,26 @@ minus-one-16 n h =
     let f : SFits w16 (negsuc n) = record { sfits = h } in
     rw (toZ-pos w16 n h, minus-one n) (f, toZ-ofZ w16 (negsuc n) f)
 
--- ---- the 14 bits of a number that fits them, below zero and else: each difference fits, and each cast is of a number from 0 on
+-- ---- the w bits of a number that fits them, below zero and else: each difference fits, and each cast is of a number from 0 on
 
 up : (n : ℕ) → negsuc 0 -ℤ negsuc n ≡ pos n
 up n = simp (le-ltb (suc n) 1 (omega arith)) (ap pos (omega arith))
 
-pub bits-below : (z : ℤ) → SFits w16 z → fitsTwos 14 z ≡ true → ltZ (toZ w16 (ofZ w16 z)) (pos 0) ≡ true
-    → (SFits w16 (negsuc 0 -ℤ toZ w16 (ofZ w16 z))) × (toZ w16 (ofZ w16 (negsuc 0 -ℤ toZ w16 (ofZ w16 z))) ≡ pos (mag z)) × (mag z < 2 ^ 13) × (16383 - mag z ≡ twosBits 14 z)
-bits-below (pos n) f g e = absurd (not-suc-le-zero (ltb-true n 0 (rw (toZ-ofZ w16 (pos n) f) at e)))
-bits-below (negsuc n) f g e =
-    let l : n < 2 ^ 13 = ltb-true n (2 ^ 13) g in
-    let h : SFits w16 (pos n) = record { sfits = omega arith } in
-    rw (toZ-ofZ w16 (negsuc n) f, up n) (h, toZ-ofZ w16 (pos n) h, l, omega arith)
+module _ (w : ℕ) (h : w ≤ 16) where
+  half : (n : ℕ) → ltb n (2 ^ (w - 1)) ≡ true → (n < 2 ^ (w - 1)) × (n < 2 ^ 15)
+  half n g =
+      let l : n < 2 ^ (w - 1) = ltb-true n (2 ^ (w - 1)) g in
+      (l, omega (arith, pow-mono {i = w - 1} {j = 15} (omega arith)))
 
-pub bits-else : (z : ℤ) → SFits w16 z → fitsTwos 14 z ≡ true → ltZ (toZ w16 (ofZ w16 z)) (pos 0) ≡ false
-    → (toZ w16 (ofZ w16 z) ≡ pos (mag z)) × (mag z < 2 ^ 13) × (mag z ≡ twosBits 14 z)
-bits-else (pos n) f g e = (toZ-ofZ w16 (pos n) f, ltb-true n (2 ^ 13) g, refl)
-bits-else (negsuc n) f g e = absurd (true≢false (rw (toZ-ofZ w16 (negsuc n) f) at e))
+  pub bits-below : (z : ℤ) → SFits w16 z → fitsTwos w z ≡ true → ltZ (toZ w16 (ofZ w16 z)) (pos 0) ≡ true
+      → (SFits w16 (negsuc 0 -ℤ toZ w16 (ofZ w16 z))) × (toZ w16 (ofZ w16 (negsuc 0 -ℤ toZ w16 (ofZ w16 z))) ≡ pos (mag z)) × (mag z < 2 ^ (w - 1)) × (2 ^ w - 1 - mag z ≡ twosBits w z)
+  bits-below (pos n) f g e = absurd (not-suc-le-zero (ltb-true n 0 (rw (toZ-ofZ w16 (pos n) f) at e)))
+  bits-below (negsuc n) f g e =
+      let l = half n g in
+      let k : SFits w16 (pos n) = record { sfits = l .1 } in
+      rw (toZ-ofZ w16 (negsuc n) f, up n) (k, toZ-ofZ w16 (pos n) k, l .0, omega arith)
+
+  pub bits-else : (z : ℤ) → SFits w16 z → fitsTwos w z ≡ true → ltZ (toZ w16 (ofZ w16 z)) (pos 0) ≡ false
+      → (toZ w16 (ofZ w16 z) ≡ pos (mag z)) × (mag z < 2 ^ (w - 1)) × (mag z ≡ twosBits w z)
+  bits-else (pos n) f g e = (toZ-ofZ w16 (pos n) f, half n g .0, refl)
+  bits-else (negsuc n) f g e = absurd (true≢false (rw (toZ-ofZ w16 (negsuc n) f) at e))

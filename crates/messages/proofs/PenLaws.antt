@@ -13,7 +13,7 @@ use types.Run.{OneOf}
 use denote.Enum.Declared.{tagOf}
 use Rattle.bits.specs.Told.{Accepted}
 use Rattle.bits.specs.Field.{Reading, reading, readUnsigned, field, putField, bitAt}
-use Rattle.bits.specs.Fields.{Bytes, bits, total, putAll}
+use Rattle.bits.specs.Fields.{Field, Bytes, bits, total, putAll}
 use Rattle.bits.specs.Answers.{toldUnsigned}
 use Rattle.bits.specs.declared.field.Unsigned.{Unsigned}
 use Rattle.bits.proofs.field.Unsigned.{the-type as unsigned-type}
@@ -24,6 +24,7 @@ use Rattle.bits.proofs.EightLaws.{next-byte}
 use Rattle.bits.proofs.ReadLaws.{read-tells}
 use Rattle.bits.proofs.FieldsLaws.{total-one, total-append, put-one, put-append}
 use Rattle.formats.specs.Put.{RoomFor, IsPut}
+use Rattle.formats.proofs.PutLaws.{Left, left-all}
 use Rattle.messages.proofs.ArmLaws.{not-refused}
 use Rattle.messages.specs.StepsPen.{drawn}
 
@@ -73,6 +74,10 @@ module _ (s : List ℕ) (i x : ℕ) (h : i + 4 ≤ length s) (b : Bytes s) where
       let e3 : _ ≡ part 3 = ap₂ (λ (t : List ℕ) (n : ℕ). set t (i + 2) (n % 256)) e2 (sym (upper 8)) ∙ turn 2 (omega arith) in
       ap₂ (λ (t : List ℕ) (n : ℕ). set t (i + 3) (n % 256)) e3 (sym (shl-shr x 32)) ∙ turn 3 (omega arith) ∙ ap (putField s (i * 8) 32) (shl-shr x 32)
 
+pub length-drawn : (s : List ℕ) (p v : ℕ) → length (drawn s p v) ≡ length s
+unfolding drawn
+length-drawn s p v = length-put s (p / 32 * 32) (p % 32) v
+
 -- ---- a pen is opened
 
 module _ (s : List ℕ) (p : ℕ) (h : p ≤ length s * 8) (b : Bytes s) where
@@ -96,6 +101,10 @@ module _ (s : List ℕ) (p : ℕ) (h : p ≤ length s * 8) (b : Bytes s) where
         go : Dec (0 < p % 32) → drawn s p 0 ≡ s
         go (yes l) = absurd (not-refused s (p / 32 * 32) (p % 32) few (omega arith) (omega arith) (omega arith) r e o)
         go (no l) = opened-none 0 (omega arith)
+
+-- all is left to put with a pen that is opened where it goes
+pub open-left : (s : List ℕ) (p q v : ℕ) (fs : List Field) → (q ≡ p) × (drawn s q v ≡ s) → Left s p fs (drawn s q v) q fs
+open-left s p q v fs e = rw (e .1, e .0) (left-all s p fs)
 
 -- ---- a field is drawn
 
@@ -160,6 +169,14 @@ module _ (s : List ℕ) (p u w v : ℕ) (b : Bytes s) (h : p + w ≤ length s * 
       ∙ ap (λ (n : ℕ). putField s (p / 32 * 32) n joined) c
       ∙ at-once
 
+-- ---- a field behind what is drawn
+
+pub one-within : (s : List ℕ) (p v : ℕ) {w x : ℕ} → RoomFor (drawn s p v) p (bits w x ∷ []) → (length s ≤ 1023) × (p + w ≤ length s * 8)
+one-within s p v {w} {x} f = (omega (arith, f .few, length-drawn s p v), omega (arith, f .within, total-one w x, length-drawn s p v))
+
+pub one-put : (s : List ℕ) (p w x : ℕ) {t : List ℕ} → t ≡ putField s p w x → IsPut s p (bits w x ∷ []) t (p + w)
+one-put s p w x e = record { end = ap (λ (n : ℕ). p + n) (sym (total-one w x)); left = e ∙ sym (put-one s p w x) }
+
 -- ---- two numbers as one
 
 -- as 64-bit code joins them
@@ -170,24 +187,32 @@ two-fit m x n y h a b =
     let k : 2 ^ (m + n) ≤ 2 ^ 32 = pow-mono {j = 32} h in
     rw e (refl, l, omega arith)
 
-pub two-put : (s : List ℕ) (p m x n y : ℕ) → RoomFor s p (bits m x ∷ bits n y ∷ []) → Bytes s → y < 2 ^ n
-    → {t : List ℕ} {q v : ℕ} → v ≡ x * 2 ^ n + y → q ≡ p + (m + n) → t ≡ putField s p (m + n) v → IsPut s p (bits m x ∷ bits n y ∷ []) t q
-two-put s p m x n y f b h {t} {q} {v} e d g =
-    let all : total (bits m x ∷ bits n y ∷ []) ≡ m + n = total-append (bits m x ∷ []) (bits n y ∷ []) ∙ ap₂ _+_ (total-one m x) (total-one n y) in
-    let above : v / 2 ^ n ≡ x = ap (λ (k : ℕ). k / 2 ^ n) e ∙ high x n h in
-    let below : v % 2 ^ n ≡ y % 2 ^ n = ap (λ (k : ℕ). k % 2 ^ n) e ∙ low x n h ∙ sym (mod-eq-of-lt h) in
-    let room = f .within in
-    record {
-      end = d ∙ ap (λ (k : ℕ). p + k) (sym all);
-      left =
-          g
-          ∙ put-split s p m n v
-          ∙ ap (λ (k : ℕ). putField (putField s p m k) (p + m) n v) above
-          ∙ put-alike (putField s p m x) (p + m) n v y (rw (length-put s p m x) (omega (arith, room, all))) (bytes-put s p m x (omega (arith, room, all)) b) below
-          ∙ sym (put-append s p (bits m x ∷ []) (bits n y ∷ [])
-          ∙ ap₂ (λ (r : List ℕ) (k : ℕ). putAll r (p + k) (bits n y ∷ [])) (put-one s p m x) (total-one m x)
-          ∙ put-one (putField s p m x) (p + m) n y);
-    }
+-- the bits of two fields
+two-bits : (m x n y : ℕ) → total (bits m x ∷ bits n y ∷ []) ≡ m + n
+two-bits m x n y = total-append (bits m x ∷ []) (bits n y ∷ []) ∙ ap₂ _+_ (total-one m x) (total-one n y)
+
+module _ (s : List ℕ) (p m x n y : ℕ) (f : RoomFor s p (bits m x ∷ bits n y ∷ [])) where
+  pub two-room : (v : ℕ) → RoomFor s p (bits (m + n) v ∷ [])
+  two-room v = record { few = f .few; within = omega (arith, f .within, two-bits m x n y, total-one (m + n) v) }
+
+  pub two-put : Bytes s → y < 2 ^ n → {t : List ℕ} {q v : ℕ} → v ≡ x * 2 ^ n + y → IsPut s p (bits (m + n) v ∷ []) t q → IsPut s p (bits m x ∷ bits n y ∷ []) t q
+  two-put b h {t} {q} {v} e d =
+      let room = f .within in
+      let all = two-bits m x n y in
+      let above : v / 2 ^ n ≡ x = ap (λ (k : ℕ). k / 2 ^ n) e ∙ high x n h in
+      let below : v % 2 ^ n ≡ y % 2 ^ n = ap (λ (k : ℕ). k % 2 ^ n) e ∙ low x n h ∙ sym (mod-eq-of-lt h) in
+      record {
+        end = d .end ∙ ap (λ (k : ℕ). p + k) (total-one (m + n) v ∙ sym all);
+        left =
+            d .left
+            ∙ put-one s p (m + n) v
+            ∙ put-split s p m n v
+            ∙ ap (λ (k : ℕ). putField (putField s p m k) (p + m) n v) above
+            ∙ put-alike (putField s p m x) (p + m) n v y (rw (length-put s p m x) (omega (arith, room, all))) (bytes-put s p m x (omega (arith, room, all)) b) below
+            ∙ sym (put-append s p (bits m x ∷ []) (bits n y ∷ [])
+            ∙ ap₂ (λ (r : List ℕ) (k : ℕ). putAll r (p + k) (bits n y ∷ [])) (put-one s p m x) (total-one m x)
+            ∙ put-one (putField s p m x) (p + m) n y);
+      }
 
 -- ---- the pen is lifted
 
@@ -216,16 +241,6 @@ module _ (s : List ℕ) (p v : ℕ) (h : p ≤ length s * 8) where
       ∙ ap₂ (λ (m n : ℕ). putField s m (p % 32) n) f rest-is
       ∙ put-alike s (p / 32 * 32) (p % 32) (v % 2 ^ (p % 32)) v (omega arith) b (mod-eq-of-lt (mod-lt v (pow-pos (p % 32))))
 
-pub length-drawn : (s : List ℕ) (p v : ℕ) → length (drawn s p v) ≡ length s
-unfolding drawn
-length-drawn s p v = length-put s (p / 32 * 32) (p % 32) v
-
 pub bytes-drawn : (s : List ℕ) (p v : ℕ) → p ≤ length s * 8 → Bytes s → Bytes (drawn s p v)
 unfolding drawn
 bytes-drawn s p v h b = bytes-put s (p / 32 * 32) (p % 32) v (omega arith) b
-
--- where two fields go behind what is drawn, there is room for them
-pub two-within : (s : List ℕ) (p v : ℕ) {m x n y : ℕ} → RoomFor (drawn s p v) p (bits m x ∷ bits n y ∷ []) → (length s ≤ 1023) × (p + (m + n) ≤ length s * 8)
-two-within s p v {m} {x} {n} {y} f =
-    let all : total (bits m x ∷ bits n y ∷ []) ≡ m + n = total-append (bits m x ∷ []) (bits n y ∷ []) ∙ ap₂ _+_ (total-one m x) (total-one n y) in
-    (omega (arith, f .few, length-drawn s p v), omega (arith, f .within, all, length-drawn s p v))

@@ -32,8 +32,8 @@ pub(crate) fn open(bytes: &[u8], start: usize) -> Pen
 
 // Writes a number of at most 32 bits behind what is written.
 pub(crate) fn draw(bytes: &mut [u8], pen: Pen, width: usize, number: u64) -> Pen
-    requires { ⌜ (length (now bytes) ≤ 1023) × (pen .at + width ≤ length (now bytes) * 8) × (width ≤ 32) × (number < 2 ^ width) ⌝ }
-    ensures { λ r. ⌜ (r .at ≡ pen .at + width) × (drawn (now (bytes .exit)) (r .at) (r .bits) ≡ putField (drawn (now (bytes .entry)) (pen .at) (pen .bits)) (pen .at) width number) ⌝ }
+    requires { ⌜ RoomFor (drawn (now bytes) (pen .at) (pen .bits)) (pen .at) (bits width number ∷ []) × (width ≤ 32) × (number < 2 ^ width) ⌝ }
+    ensures { λ r. ⌜ IsPut (drawn (now (bytes .entry)) (pen .at) (pen .bits)) (pen .at) (bits width number ∷ []) (drawn (now (bytes .exit)) (r .at) (r .bits)) (r .at) ⌝ }
 {
     let at = pen.at + width;
     let bits = (pen.bits << width) + number;

@@ -1,11 +1,9 @@
 // Room for a block, and its fields once it is known to fit: then nothing is refused, and the answer is the bit behind the
 // field.
 ghost use mathlib.Core.Path.{_≡_};
-ghost use mathlib.Core.Bool.{true};
 ghost use mathlib.Core.List.{[], _∷_};
 ghost use Prim.Native.Nat.{_+_, _*_, _^_, _≤_, _<_};
 ghost use lib.Dec.{leb};
-ghost use Rattle.bits.specs.Signed.{fitsTwos, twosBits};
 ghost use Rattle.bits.specs.Fields.{bits};
 ghost use Rattle.formats.specs.Put.{RoomFor, IsPut};
 use bits::field;
@@ -29,17 +27,6 @@ pub(crate) fn unsigned(bytes: &mut [u8], at: usize, width: usize, value: u64) ->
     ensures { λ r. ⌜ IsPut (now (bytes .entry)) at (bits width value ∷ []) (now (bytes .exit)) r ⌝ }
 {
     let Written::End(next) = field::write_unsigned(bytes, at, width, value) else {
-        return at;
-    };
-    next
-}
-
-// Writes a number in two's complement.
-pub(crate) fn twos(bytes: &mut [u8], at: usize, width: usize, value: i16) -> usize
-    requires { ⌜ RoomFor (now bytes) at (bits width (twosBits width value) ∷ []) × (1 ≤ width) × (width ≤ 64) × (fitsTwos width value ≡ true) ⌝ }
-    ensures { λ r. ⌜ IsPut (now (bytes .entry)) at (bits width (twosBits width value) ∷ []) (now (bytes .exit)) r ⌝ }
-{
-    let Written::End(next) = field::write_twos(bytes, at, width, value as i64) else {
         return at;
     };
     next

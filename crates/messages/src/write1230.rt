@@ -1,15 +1,17 @@
 // Writing the bias block of message 1230.
 ghost use mathlib.Core.Path.{_≡_};
-ghost use mathlib.Core.Bool.{cond};
+ghost use mathlib.Core.Bool.{true, cond};
 ghost use mathlib.Core.List.{[]};
-ghost use Prim.Native.Nat.{_≤_};
+ghost use Prim.Native.Nat.{_^_, _≤_, _<_};
 ghost use lib.ListN.{length};
 ghost use lib.Dec.{eqb, ltb};
 ghost use Rattle.bits.specs.Told.{signal as signalAt, duplicate};
+ghost use Rattle.bits.specs.Signed.{fitsTwos, twosBits};
 ghost use Rattle.bits.specs.Outcome.{outcome};
 ghost use Rattle.bits.specs.Fields.{putAll};
 ghost use Rattle.messages.specs.Answers.{toldBlock};
 ghost use Rattle.formats.specs.Put.{RoomFor, IsPut};
+ghost use Rattle.messages.specs.StepsPen.{drawn};
 ghost use Rattle.formats.specs.Written.{fine, firstFault};
 ghost use Rattle.messages.specs.Records.{records1230};
 ghost use Rattle.messages.specs.Layout1230.{maskSignals, ofSignal};
@@ -17,6 +19,8 @@ ghost use Rattle.messages.specs.Writer.{firstRepeat};
 ghost use Rattle.messages.specs.Write1230.{isIn, fault1230, fields1230, write1230};
 ghost use Rattle.messages.specs.StepsWrite1230.{biasFields1230};
 use crate::answer::BlockWritten;
+use crate::pen;
+use crate::pen::Pen;
 use crate::put;
 use crate::read1230::MASK_SIGNALS;
 
@@ -109,11 +113,13 @@ fn put_block(bytes: &mut [u8], start: usize, signals: &[u8], biases: &[i16])
         + mask_bit(3, signals) * 4
         + mask_bit(8, signals) * 2
         + mask_bit(9, signals);
-    let a = put::unsigned(bytes, start, 4, mask);
+    let start = pen::open(bytes, start);
+    let a = pen::draw(bytes, start, 4, mask);
     let b = put_signal(bytes, a, 2, signals, biases);
     let c = put_signal(bytes, b, 3, signals, biases);
     let d = put_signal(bytes, c, 8, signals, biases);
-    let _end = put_signal(bytes, d, 9, signals, biases);
+    let end = put_signal(bytes, d, 9, signals, biases);
+    pen::lift(bytes, end);
 }
 
 // 1 where the signal has a bias, else 0.
@@ -123,20 +129,31 @@ fn mask_bit(signal: u8, signals: &[u8]) -> u64
     if is_in(signal, signals) { 1 } else { 0 }
 }
 
-// The biases of one signal, in list order. The answer is the bit behind them.
-fn put_signal(bytes: &mut [u8], start: usize, signal: u8, signals: &[u8], biases: &[i16]) -> usize
-    requires { ⌜ RoomFor (now bytes) start (biasFields1230 (ofSignal signal (records1230 (now signals) (now biases)))) × (length (now signals) ≡ length (now biases)) ⌝ }
-    ensures { λ r. ⌜ IsPut (now (bytes .entry)) start (biasFields1230 (ofSignal signal (records1230 (now (signals .entry)) (now (biases .entry))))) (now (bytes .exit)) r ⌝ }
+// The biases of one signal, in list order.
+fn put_signal(bytes: &mut [u8], first: Pen, signal: u8, signals: &[u8], biases: &[i16]) -> Pen
+    requires { ⌜ RoomFor (drawn (now bytes) (first .at) (first .bits)) (first .at) (biasFields1230 (ofSignal signal (records1230 (now signals) (now biases)))) × (length (now signals) ≡ length (now biases)) ⌝ }
+    ensures { λ r. ⌜ IsPut (drawn (now (bytes .entry)) (first .at) (first .bits)) (first .at) (biasFields1230 (ofSignal signal (records1230 (now (signals .entry)) (now (biases .entry))))) (drawn (now (bytes .exit)) (r .at) (r .bits)) (r .at) ⌝ }
 {
-    let mut at = start;
+    let mut pen = first;
     let mut i: usize = 0;
     while i < signals.len() {
         if signals[i] == signal {
-            at = put::twos(bytes, at, 16, biases[i]);
+            pen = pen::draw(bytes, pen, 16, word_of(biases[i]));
             i += 1;
             continue;
         }
         i += 1;
     }
-    at
+    pen
+}
+
+// The 16 bits of a bias.
+fn word_of(bias: i16) -> u64
+    requires { ⌜ fitsTwos 16 bias ≡ true ⌝ }
+    ensures { λ r. ⌜ (r ≡ twosBits 16 bias) × (r < 2 ^ 16) ⌝ }
+{
+    if bias < 0 {
+        return 65535 - (-1 - bias) as u64;
+    }
+    bias as u64
 }

@@ -10,31 +10,31 @@ use Rattle.messages.proofs.write1059.bits_of.Statement.{statement}
 use Rattle.messages.proofs.write1059.bits_of.Tie as tie
 
 sub-result : tie.Need-sub-result
-sub-result c = bits-below (c .before .args .bias) (c .before .fits .bias) (c .before .pre) (c .if1 .taken) .0
+sub-result c = bits-below 14 (omega arith) (c .before .args .bias) (c .before .fits .bias) (c .before .pre) (c .if1 .taken) .0
 
 cast-result : tie.Need-cast-result
 cast-result c =
-    let b = bits-below (c .before .args .bias) (c .before .fits .bias) (c .before .pre) (c .if1 .taken) in
+    let b = bits-below 14 (omega arith) (c .before .args .bias) (c .before .fits .bias) (c .before .pre) (c .if1 .taken) in
     to-unsigned _ (mag (c .before .args .bias)) (b .1) (omega (arith, b .2))
 
 sub-result-2 : tie.Need-sub-result-2
 sub-result-2 c =
-    let b = bits-below (c .before .args .bias) (c .before .fits .bias) (c .before .pre) (c .if1 .taken) in
+    let b = bits-below 14 (omega arith) (c .before .args .bias) (c .before .fits .bias) (c .before .pre) (c .if1 .taken) in
     omega (arith, ap natAbs (b .1), b .2)
 
 returns : tie.Need-returns
 returns c =
-    let b = bits-below (c .before .args .bias) (c .before .fits .bias) (c .before .pre) (c .if1 .taken) in
+    let b = bits-below 14 (omega arith) (c .before .args .bias) (c .before .fits .bias) (c .before .pre) (c .if1 .taken) in
     (ap (λ (n : ℕ). 16383 - n) (ap natAbs (b .1)) ∙ b .3, omega arith)
 
 cast-result-2 : tie.Need-cast-result-2
 cast-result-2 c =
-    let b = bits-else (c .before .args .bias) (c .before .fits .bias) (c .before .pre) (c .if1 .left) in
+    let b = bits-else 14 (omega arith) (c .before .args .bias) (c .before .fits .bias) (c .before .pre) (c .if1 .left) in
     to-unsigned _ (mag (c .before .args .bias)) (b .0) (omega (arith, b .1))
 
 returns-2 : tie.Need-returns-2
 returns-2 c =
-    let b = bits-else (c .before .args .bias) (c .before .fits .bias) (c .before .pre) (c .if1 .left) in
+    let b = bits-else 14 (omega arith) (c .before .args .bias) (c .before .fits .bias) (c .before .pre) (c .if1 .left) in
     (ap natAbs (b .0) ∙ b .2, omega (arith, ap natAbs (b .0), b .1))
 
 pub bits-of-spec : {M : Type 1} → statement M
