@@ -12,7 +12,6 @@ use Rattle.messages.specs.StepsWrite1059.{satelliteFields, satellitesFro
 use Rattle.formats.proofs.PutLaws.{Left, left-all, left-as, left-fits, left-fits-all, left-put, left-none}
 use Rattle.messages.proofs.Fields1059Laws.{satellites-next, satellites-none}
 use Rattle.messages.proofs.PenLaws.{length-drawn}
-use borrow.Author.Needs.{needs}
 use Rattle.messages.proofs.write1059.put_satellites.Statement.{statement}
 use Rattle.messages.proofs.write1059.put_satellites.Tie as tie
 
