@@ -21,6 +21,10 @@ module _ {A : Type 0} (fault : ℕ → A → Told Unit) (i : ℕ) where
   fault-none = refl
 
   module _ (r : A) (rs : List A) where
+    pub fault-next : firstFault fault i (r ∷ rs) ≡ andThen (fault i r) (λ u. firstFault fault (suc i) rs)
+    unfolding firstFault
+    fault-next = refl
+
     pub fault-later : fault i r ≡ fine → firstFault fault i (r ∷ rs) ≡ firstFault fault (suc i) rs
     unfolding firstFault
     fault-later e = rw e

@@ -1,5 +1,5 @@
 -- When the bias block of message 1059 is written: the conditions of an accepted call, in both directions. Assumes nothing.
-use mathlib.Core.Path.{_≡_, refl}
+use mathlib.Core.Path.{_≡_, _∙_}
 use mathlib.Core.Bool.{true, cond, not}
 use mathlib.Core.List.{List, [], _∷_}
 use Prim.Native.Nat.{ℕ, suc, _+_, _*_, _≤_}
@@ -13,7 +13,7 @@ use Rattle.bits.specs.Outcome.{outcome}
 use Rattle.bits.specs.Fields.{total, putAll}
 use Rattle.formats.specs.Written.{fine, firstFault}
 use Rattle.formats.proofs.NextLaws.{then-accepted}
-use Rattle.formats.proofs.WrittenLaws.{not-refused}
+use Rattle.formats.proofs.WrittenLaws.{fault-none, fault-later, faultless, not-refused}
 use Rattle.messages.specs.Every.{Every}
 use Rattle.messages.specs.Records.{Rec1059, rec1059, satelliteOf, signalOf1059, biasOf1059, records1059}
 use Rattle.messages.specs.Signals1059.{isEdition, knownEdition, isSignal1059}
@@ -43,16 +43,14 @@ module _ (e : ℕ) where
       record { low = ltb-false 63 a (x .0); known = not-false (isSignal1059 e g) (y .0); fits = not-false (fitsTwos 14 z) (t .0) }
 
   pub clean-fine : (i : ℕ) (rs : List Rec1059) → Every (Writable e) rs → firstFault (fault1059 e) i rs ≡ fine
-  unfolding firstFault
-  clean-fine i [] w = refl
-  clean-fine i (r ∷ rs) w = rw (no-fault i r (w .0)) (clean-fine (suc i) rs (w .1))
+  clean-fine i [] w = fault-none (fault1059 e) i
+  clean-fine i (r ∷ rs) w = fault-later (fault1059 e) i r rs (no-fault i r (w .0)) ∙ clean-fine (suc i) rs (w .1)
 
   pub fine-clean : (i : ℕ) (rs : List Rec1059) → firstFault (fault1059 e) i rs ≡ fine → Every (Writable e) rs
-  unfolding firstFault
   fine-clean i [] h = tt
   fine-clean i (r ∷ rs) h =
-      let t = then-accepted (fault1059 e i r) _ h in
-      (fault-free i r (t .1), fine-clean (suc i) rs (t .2))
+      let t = faultless (fault1059 e) i r rs h in
+      (fault-free i r (t .0), fine-clean (suc i) rs (t .1))
 
 -- ---- the records
 

@@ -1,5 +1,5 @@
 -- The first fault of records of message 1059, and what its absence says. Assumes nothing.
-use mathlib.Core.Path.{_≡_, refl, sym, ap, ap₂, _∙_}
+use mathlib.Core.Path.{_≡_, sym, ap, ap₂, _∙_}
 use mathlib.Core.Bool.{Bool, true, false, cond, not}
 use mathlib.Core.List.{List, [], _∷_}
 use Prim.Native.Nat.{ℕ, zero, suc, _+_, _≤_, _<_}
@@ -18,15 +18,16 @@ use Rattle.messages.specs.StepsColumns.{maskOf, inMask}
 use Rattle.messages.specs.Records.{Rec1059, rec1059, records1059}
 use Rattle.messages.specs.Write1059.{fault1059}
 use Rattle.messages.specs.StepsWrite1059.{faultBy, Faultless}
+use Rattle.formats.proofs.WrittenLaws.{fault-none, fault-next}
 use Rattle.messages.proofs.Signals1059Laws.{mask-tells, signal-fits}
 use Rattle.messages.proofs.Accepts1059.{Writable, fine-clean}
 use Rattle.messages.proofs.RecordLaws.{from1059, next1059, end1059}
 
 -- the same faults of each record, the same first fault
 first-fault-as : {A : Type 0} (f g : ℕ → A → Told Unit) → ((i : ℕ) (r : A) → f i r ≡ g i r) → (i : ℕ) (rs : List A) → firstFault f i rs ≡ firstFault g i rs
-unfolding firstFault
-first-fault-as f g e i [] = refl
-first-fault-as f g e i (r ∷ rs) = ap₂ (λ (x y : Told Unit). andThen x (λ u. y)) (e i r) (first-fault-as f g e (suc i) rs)
+first-fault-as f g e i [] = fault-none f i ∙ sym (fault-none g i)
+first-fault-as f g e i (r ∷ rs) =
+    fault-next f i r rs ∙ ap₂ (λ (x y : Told Unit). andThen x (λ u. y)) (e i r) (first-fault-as f g e (suc i) rs) ∙ sym (fault-next g i r rs)
 
 -- the mask of an edition tells its faults
 fault-by-mask : (edition i : ℕ) (r : Rec1059) → faultBy (maskOf (signals1059 edition)) i r ≡ fault1059 edition i r
@@ -49,8 +50,10 @@ module _ (mask : ℕ) (sats gs : List ℕ) (zs : List ℤ) (lg : length sats ≡
   by-tests : firstFault (faultBy mask) i (from1059 sats gs zs i)
       ≡ andThen (cond (ltb 63 (getD sats i 0)) (satellite i) (cond (not (inMask mask (getD gs i 0))) (signal i) (cond (not (fitsTwos 14 (getD zs i (pos 0)))) (range i) fine)))
       (λ u. firstFault (faultBy mask) (suc i) (from1059 sats gs zs (suc i)))
-  unfolding firstFault faultBy
-  by-tests = ap (firstFault (faultBy mask) i) (next1059 sats gs zs lg lz i h)
+  unfolding faultBy
+  by-tests =
+      ap (firstFault (faultBy mask) i) (next1059 sats gs zs lg lz i h)
+      ∙ fault-next (faultBy mask) i (rec1059 (getD sats i 0) (getD gs i 0) (getD zs i (pos 0))) (from1059 sats gs zs (suc i))
 
   pub is-satellite : 63 < getD sats i 0 → satellite i ≡ firstFault (faultBy mask) i (from1059 sats gs zs i)
   is-satellite a = rw (by-tests, lt-ltb 63 (getD sats i 0) a)
@@ -67,8 +70,7 @@ module _ (mask : ℕ) (sats gs : List ℕ) (zs : List ℤ) (lg : length sats ≡
     is-fine g z = rw (add-one i, by-tests, le-ltb 63 (getD sats i 0) a, g, z)
 
 pub no-more : (mask : ℕ) (sats gs : List ℕ) (zs : List ℤ) (i : ℕ) → length sats ≤ i → firstFault (faultBy mask) i (from1059 sats gs zs i) ≡ fine
-unfolding firstFault
-no-more mask sats gs zs i h = ap (firstFault (faultBy mask) i) (end1059 sats gs zs i h)
+no-more mask sats gs zs i h = ap (firstFault (faultBy mask) i) (end1059 sats gs zs i h) ∙ fault-none (faultBy mask) i
 
 -- ---- records without a fault
 

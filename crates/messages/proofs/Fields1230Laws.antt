@@ -14,6 +14,7 @@ use Rattle.bits.specs.Signed.{twosBits}
 use Rattle.bits.specs.Fields.{bits, total}
 use Rattle.bits.proofs.FieldsLaws.{total-one, total-next}
 use Rattle.formats.specs.Format.{twos}
+use Rattle.formats.proofs.WrittenLaws.{fault-next}
 use Rattle.formats.proofs.TimesLaws.{fields-none, fields-next, total-each}
 use Rattle.formats.specs.Written.{fine, firstFault}
 use Rattle.messages.specs.Every.{gather}
@@ -93,11 +94,11 @@ one-more g z rs e =
     (one-of-four g e))
 
 all-four : (k : ℕ) (gs : List ℕ) (zs : List ℤ) → length gs ≡ length zs → firstFault fault1230 k gs ≡ fine → length (four (records1230 gs zs)) ≡ length gs
-unfolding records1230 firstFault four ofSignal gather
+unfolding records1230 four ofSignal gather
 all-four k [] zs l e = refl
 all-four k (g ∷ gs) [] l e = absurd (omega arith)
 all-four k (g ∷ gs) (z ∷ zs) l e =
-    let f = known-first k g (firstFault fault1230 (suc k) gs) e in
+    let f = known-first k g (firstFault fault1230 (suc k) gs) (sym (fault-next fault1230 k g gs) ∙ e) in
     omega (arith, one-more g z (records1230 gs zs) (f .0), all-four (suc k) gs zs (omega arith) (f .1))
 
 -- 4 bits of the mask, and 16 of each record

@@ -2,7 +2,7 @@
 use mathlib.Core.Path.{_≡_, refl, sym, ap, ap₂, _∙_}
 use mathlib.Core.Bool.{Bool, true, false, cond, _&&_}
 use mathlib.Core.List.{List, [], _∷_, _++_, map}
-use Prim.Native.Nat.{ℕ, _+_, _-_, _*_, _/_, _%_, _^_, _≤_, _<_}
+use Prim.Native.Nat.{ℕ, suc, _+_, _-_, _*_, _/_, _%_, _^_, _≤_, _<_}
 use native.Mathlib.Nat.{div-one}
 use native.Mathlib.Omega.{arith}
 use borrow.Author.Tests.{lt-ltb, eq-eqb, ne-eqb}
@@ -13,6 +13,7 @@ use Rattle.bits.specs.Told.{Told, Accepted, Refused, andThen}
 use Rattle.bits.specs.Field.{reading}
 use Rattle.bits.specs.Signed.{fitsUnsigned}
 use Rattle.formats.specs.Format.{twos, fitEach}
+use Rattle.formats.proofs.WrittenLaws.{fault-none, fault-next}
 use Rattle.formats.specs.WrittenBack.{WrittenBack}
 use Rattle.formats.proofs.NextLaws.{true-both, then-accepted}
 use Rattle.formats.proofs.TimesLaws.{fit-each, fit-each-none, fit-each-append}
@@ -171,14 +172,24 @@ unfolding accepted
 is-fine (Accepted u) h = refl
 is-fine (Refused n carried) h = absurd h
 
+-- the first fault, in a form that computes
+faults : ℕ → List ℕ → Told Unit
+faults i [] = fine
+faults i (g ∷ gs) = andThen (fault1230 i g) (λ u. faults (suc i) gs)
+
+faults-are : (i : ℕ) (gs : List ℕ) → firstFault fault1230 i gs ≡ faults i gs
+unfolding faults
+faults-are i [] = fault-none fault1230 i
+faults-are i (g ∷ gs) = fault-next fault1230 i g gs ∙ ap (λ (t : Told Unit). andThen (fault1230 i g) (λ u. t)) (faults-are (suc i) gs)
+
 refused : ℕ → Told Unit
-refused m = andThen (firstFault fault1230 0 (masked maskSignals m)) (λ u. firstRepeat eqb 0 [] (masked maskSignals m))
+refused m = andThen (faults 0 (masked maskSignals m)) (λ u. firstRepeat eqb 0 [] (masked maskSignals m))
 
 good : ℕ → Bool
 good m = accepted (refused m) && eqb (maskOf maskSignals (masked maskSignals m)) m
 
 all-good : T (below good 16)
-unfolding good refused accepted masked maskOf firstFault fault1230 firstRepeat isAmong
+unfolding good refused accepted masked maskOf faults fault1230 firstRepeat isAmong
 all-good = tt
 
 mask-good : (m : ℕ) → m < 16 → (refused m ≡ fine) × (maskOf maskSignals (masked maskSignals m) ≡ m)
@@ -196,10 +207,10 @@ block-back-1230 s p {q} rs h t r few room =
     let gs = masked maskSignals m in
     let b = fits-1230 m zs (block-good .faithful .there s p (reading (m, zs) q) (a .1) .fitting) in
     let ok = mask-good m (b .0) in
-    let f = then-accepted (firstFault fault1230 0 gs) _ (ok .0) in
+    let f = then-accepted (faults 0 gs) _ (ok .0) in
     let parts = parts1230 gs zs (sym (b .1)) in
     let same : grouped1230 (records1230 gs zs) ≡ (m, zs) =
     ap₂ (λ (k : ℕ) (l : List ℤ). (k, l)) (ap (maskOf maskSignals) (parts .0) ∙ ok .1) (biases-again 0 maskSignals (omega arith, (omega arith, (omega arith, (omega arith, tt)))) m zs (b .1)) in
     rw (sym (a .2), parts .0, parts .1)
     (call-writes-back block1230 (block-good .faithful) s p (a .1) same t r room (λ within.
-    call-written t r gs zs (record { few = few; biases = sym (b .1); most = omega (arith, b .1, masked-length m); clean = f .1; single = f .2; within = within })))
+    call-written t r gs zs (record { few = few; biases = sym (b .1); most = omega (arith, b .1, masked-length m); clean = faults-are 0 gs ∙ f .1; single = f .2; within = within })))

@@ -12,6 +12,7 @@ use lib.ListN.{length, getD, take, drop, drop-of-length-le}
 use lib.Seq.{drop-cons, take-suc}
 use Rattle.bits.specs.Told.{Told, andThen, signal}
 use Rattle.formats.specs.Written.{fine, firstFault}
+use Rattle.formats.proofs.WrittenLaws.{fault-none, fault-next}
 use Rattle.messages.specs.Layout1230.{maskSignals}
 use Rattle.messages.specs.Writer.{isAmong}
 use Rattle.messages.specs.Write1230.{isIn, fault1230}
@@ -38,8 +39,8 @@ module _ (k : ℕ) (gs : List ℕ) (i : ℕ) where
 
 module _ (gs : List ℕ) (i : ℕ) (h : i < length gs) where
   unknown-cons : firstFault fault1230 i (drop i gs) ≡ andThen (cond (not (isIn (getD gs i 0) maskSignals)) (signal i) fine) (λ u. firstFault fault1230 (suc i) (drop (suc i) gs))
-  unfolding firstFault fault1230
-  unknown-cons = ap (firstFault fault1230 i) (drop-cons gs i 0 h)
+  unfolding fault1230
+  unknown-cons = ap (firstFault fault1230 i) (drop-cons gs i 0 h) ∙ fault-next fault1230 i (getD gs i 0) (drop (suc i) gs)
 
   pub unknown-here : isIn (getD gs i 0) maskSignals ≡ false → firstFault fault1230 i (drop i gs) ≡ signal i
   unknown-here e = rw (unknown-cons, e)
@@ -48,8 +49,7 @@ module _ (gs : List ℕ) (i : ℕ) (h : i < length gs) where
   known-here e = rw (add-one i, unknown-cons, e)
 
 pub none-unknown : (gs : List ℕ) (i : ℕ) → length gs ≤ i → firstFault fault1230 i (drop i gs) ≡ fine
-unfolding firstFault
-none-unknown gs i h = ap (firstFault fault1230 i) (drop-of-length-le gs h)
+none-unknown gs i h = ap (firstFault fault1230 i) (drop-of-length-le gs h) ∙ fault-none fault1230 i
 
 -- where no signal is unknown, each is one of the four
 pub known-first : (i g : ℕ) (rest : Told Unit) → andThen (fault1230 i g) (λ u. rest) ≡ fine → (isIn g maskSignals ≡ true) × (rest ≡ fine)
