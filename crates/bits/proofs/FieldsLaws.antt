@@ -61,18 +61,9 @@ pub fit-none : Fit []
 unfolding Fit
 fit-none = tt
 
-module _ (w v : ℕ) (fs : List Field) where
-  pub fit-next : v < 2 ^ w → Fit fs → Fit (bits w v ∷ fs)
-  unfolding Fit
-  fit-next h f = (h, f)
-
-  pub fit-first : Fit (bits w v ∷ fs) → v < 2 ^ w
-  unfolding Fit
-  fit-first f = f .0
-
-  pub fit-rest : Fit (bits w v ∷ fs) → Fit fs
-  unfolding Fit
-  fit-rest f = f .1
+pub fit-next : (w v : ℕ) (fs : List Field) → v < 2 ^ w → Fit fs → Fit (bits w v ∷ fs)
+unfolding Fit
+fit-next w v fs h f = (h, f)
 
 -- ---- laws
 

@@ -4,8 +4,8 @@ use mathlib.Core.List.{List, _++_}
 use Prim.Native.Nat.{ℕ, zero, suc, _+_, _-_, _*_, _/_, _%_, _^_, _≤_}
 use native.Mathlib.Nat.{add-assoc}
 use native.Mathlib.Omega.{arith}
-use lib.ListN.{length, getD, take, drop, List·getD-append}
-use lib.Seq.{getD-take, getD-drop}
+use lib.ListN.{length, getD, drop, List·getD-append}
+use lib.Seq.{getD-drop}
 use Rattle.bits.specs.Field.{bitAt, field}
 use Rattle.bits.proofs.BitLaws.{field-ext}
 
@@ -14,11 +14,6 @@ bit-drop n s i =
     let e1 : n + i / 8 ≡ (n * 8 + i) / 8 = omega arith in
     let e2 : i % 8 ≡ (n * 8 + i) % 8 = omega arith in
     ap (λ (x : ℕ). x / 2 ^ (7 - i % 8) % 2) (getD-drop n s (i / 8) 0) ∙ ap₂ (λ (x y : ℕ). getD s x 0 / 2 ^ (7 - y) % 2) e1 e2
-
--- a field within the first n bytes is one of those bytes alone
-pub field-take : (n : ℕ) (s : List ℕ) (p w : ℕ) → p + w ≤ n * 8 → field (take n s) p w ≡ field s p w
-field-take n s p w h =
-    field-ext (take n s) s p w (λ i l k. ap (λ (x : ℕ). x / 2 ^ (7 - i % 8) % 2) (getD-take n s (i / 8) 0 (omega arith)))
 
 pub field-drop : (n : ℕ) (s : List ℕ) (p w : ℕ) → field (drop n s) p w ≡ field s (n * 8 + p) w
 unfolding field

@@ -8,7 +8,7 @@ use native.Mathlib.Omega.{arith}
 use lib.Bits.{bitXor, xor-shr, xor-mod, xor-zero-r, block-half, block-odd}
 use Rattle.bits.proofs.XorLaws.{xor-swap, xor-times, xor-assoc, xor-shl}
 use Rattle.bits.specs.Crc.{crcBit, crcBits, crcByte}
-use Rattle.bits.proofs.CrcLaws.{bits-linear}
+use Rattle.bits.proofs.CrcLaws.{bit-linear, bits-linear}
 use Rattle.bits.specs.FoldSteps.{rem}
 use Rattle.bits.proofs.LinearLaws.{Linear, linear-zero, by-test}
 
@@ -16,10 +16,6 @@ half-lt : (y k : ℕ) → y < 2 ^ suc k → y / 2 < 2 ^ k
 half-lt y k h =
     let e : suc k ≡ k + 1 = omega arith in
     shr-lt k 1 (subst (λ (i : ℕ). y < 2 ^ i) e h)
-
-bit-linear : (x y : ℕ) → crcBit (bitXor x y) ≡ bitXor (crcBit x) (crcBit y)
-unfolding crcBits
-bit-linear x y = bits-linear 1 x y
 
 pub rem-linear : (w : ℕ) → Linear (rem w)
 unfolding rem
@@ -29,9 +25,6 @@ rem-linear (suc w) x y =
     (ap (λ (n : ℕ). crcBit (rem w n)) (xor-shr x y 1) ∙ ap crcBit (rem-linear w (x / 2) (y / 2)) ∙ bit-linear (rem w (x / 2)) (rem w (y / 2)))
     (ap (λ (n : ℕ). n * 0x864CFB) (xor-mod x y 1) ∙ xor-times 0x864CFB (x % 2) (y % 2) (mod-lt x (zero-lt-suc 1)) (mod-lt y (zero-lt-suc 1)))
     ∙ xor-swap (crcBit (rem w (x / 2))) (crcBit (rem w (y / 2))) (x % 2 * 0x864CFB) (y % 2 * 0x864CFB)
-
-pub bits-zero : (k : ℕ) → crcBits k 0 ≡ 0
-bits-zero k = linear-zero (crcBits k) (bits-linear k)
 
 pub rem-zero : (w : ℕ) → rem w 0 ≡ 0
 rem-zero w = linear-zero (rem w) (rem-linear w)

@@ -1,7 +1,9 @@
 -- The words of the loop: at its start, at each turn and at its end. Assumes nothing.
 use mathlib.Core.Path.{_≡_, sym, ap, ap₂, _∙_}
 use mathlib.Core.List.{List}
-use Prim.Native.Nat.{ℕ, _+_, _*_, _-_, _%_, _^_, _≤_, _<_}
+use Prim.Native.Nat.{ℕ, _+_, _*_, _-_, _/_, _%_, _^_, _≤_, _<_}
+use lib.Pow.{high as pow-high}
+use native.Mathlib.Nat.{zero-add, zero-mul}
 use native.Mathlib.Omega.{arith}
 use lib.ListN.{length, getD, take, drop, take-append-drop}
 use lib.Bits.{bitXor, xor-comm, xor-zero-l}
@@ -9,8 +11,9 @@ use Rattle.bits.specs.Field.{field}
 use Rattle.bits.specs.Crc.{crcBits, crcFrom}
 use Rattle.bits.specs.FoldSteps.{rem, near, far, nearer, farther, next, three}
 use Rattle.bits.proofs.XorLaws.{xor-assoc, xor-swap}
-use Rattle.bits.proofs.CrcLaws.{bits-linear, from-append, from-end}
-use Rattle.bits.proofs.RemLaws.{rem-linear, bits-add, rem-zero, bits-zero}
+use Rattle.bits.proofs.CrcLaws.{bits-zero, bits-linear, from-append, from-end}
+use Rattle.bits.proofs.RemLaws.{rem-linear, rem-split, bits-add, rem-zero}
+use Rattle.bits.proofs.FieldLaws.{field-split, field-lt}
 use Rattle.bits.proofs.FoldLaws.{fold-three, fold-two, fold-one, top}
 use Rattle.bits.proofs.WordLaws.{run}
 
@@ -26,6 +29,26 @@ begun s i c w h b hc e =
     (run 8 s i c h b
     ∙ ap (λ (z : ℕ). crcFrom z (drop (i + 8) s))
     (ap (λ (z : ℕ). bitXor z (rem 64 f)) (top c hc) ∙ sym (rem-linear 64 (c * 2 ^ 40 % 2 ^ 64) f) ∙ ap (rem 64) (sym e)))
+
+-- the first n bytes as one number: a word with zeros in front
+pub first-word : (s : List ℕ) (n w : ℕ) → n ≤ length s → n ≤ 8 → ((k : ℕ) → getD s k 0 < 256) → w ≡ field s 0 64 / 2 ^ (64 - n * 8)
+    → crcFrom (rem 64 w) (drop n s) ≡ crcFrom 0 s
+first-word s n w h l b e =
+    let m = n * 8 in
+    let f = field s 0 m in
+    let cut : 64 ≡ m + (64 - m) = omega arith in
+    let whole : 64 ≡ 64 - m + m = omega arith in
+    let front : w ≡ f =
+    e ∙ ap (λ (x : ℕ). x / 2 ^ (64 - m)) (ap (field s 0) cut ∙ field-split s 0 m (64 - m)) ∙ pow-high f (64 - m) (field-lt s (0 + m) (64 - m)) in
+    let bare : f ≡ 0 * 2 ^ m + f = sym (ap (λ (x : ℕ). x + f) (zero-mul (2 ^ m)) ∙ zero-add f) in
+    let same : rem 64 w ≡ rem m f =
+    ap₂ rem whole (front ∙ bare)
+    ∙ rem-split (64 - m) m 0 f (field-lt s 0 m)
+    ∙ ap (λ (x : ℕ). bitXor x (rem m f)) (ap (crcBits m) (rem-zero (64 - m)) ∙ bits-zero m)
+    ∙ xor-zero-l (rem m f) in
+    ap (λ (x : ℕ). crcFrom x (drop n s)) (same ∙ sym (ap (λ (x : ℕ). bitXor x (rem m f)) (bits-zero m) ∙ xor-zero-l (rem m f)))
+    ∙ ap (λ (k : ℕ). crcFrom (bitXor (crcBits m 0) (rem m f)) (drop k s)) (sym (zero-add n))
+    ∙ sym (run n s 0 0 (omega (arith, h)) b)
 
 -- the front of the bytes a byte at a time, and then the words
 pub front-first : (s : List ℕ) (c : ℕ) → crcFrom (crcFrom c (take (length s % 8 - 0) s)) (drop (length s % 8) s) ≡ crcFrom c s

@@ -1,6 +1,8 @@
-// CRC-24Q: the first bytes one at a time from a table of 256 numbers, until whole words of eight bytes are left; the
-// words by folding.
+// CRC-24Q: words of eight bytes by folding; fewer bytes, and the first ones behind an earlier sum, one at a time from a
+// table of 256 numbers.
 ghost use mathlib.Core.Path.{_≡_};
+ghost use Prim.Native.Nat.{_≤_};
+ghost use lib.ListN.{length};
 ghost use Rattle.bits.specs.Crc.{crcByte, crcFrom, crc};
 use crate::fold;
 use crate::raw;
@@ -9,7 +11,21 @@ use crate::raw;
 pub fn crc24q(bytes: &[u8]) -> u32
     ensures { λ r. ⌜ r ≡ crc (now (bytes .entry)) ⌝ }
 {
-    crc24q_from(0, bytes)
+    if bytes.len() < 8 {
+        return by_table(0, bytes);
+    }
+    by_words(bytes)
+}
+
+// The same of eight bytes and more. The first one to eight of them, as many as leave whole words behind, are one number:
+// zeros in front of it change no checksum.
+fn by_words(bytes: &[u8]) -> u32
+    requires { ⌜ 8 ≤ length (now bytes) ⌝ }
+    ensures { λ r. ⌜ r ≡ crc (now (bytes .entry)) ⌝ }
+{
+    let front = bytes.len() - (bytes.len() - 1) / 8 * 8;
+    let word = raw::eight_at(bytes, 0) >> (64 - front * 8);
+    fold::words(bytes, front, word)
 }
 
 // The checksum of earlier bytes, continued over these: from the checksum of A it makes that of A and B joined.
@@ -22,7 +38,7 @@ pub fn crc24q_from(sum: u32, bytes: &[u8]) -> u32
         return c;
     }
     let word = raw::eight_at(bytes, front);
-    fold::words(bytes, front, ((c as u64) << 40) ^ word)
+    fold::words(bytes, front + 8, ((c as u64) << 40) ^ word)
 }
 
 // The same a byte at a time.

@@ -1,21 +1,21 @@
 // The checksum over words of eight bytes. Sparse multiples of the polynomial let a word be taken away and put, shifted,
 // into the words behind it: nothing is looked up before the last word.
 ghost use mathlib.Core.Path.{_≡_};
-ghost use Prim.Native.Nat.{_+_, _%_, _^_, _≤_, _<_};
+ghost use Prim.Native.Nat.{_%_, _^_, _≤_, _<_};
 ghost use lib.ListN.{length, drop};
 ghost use Rattle.bits.specs.Crc.{crcFrom};
 ghost use Rattle.bits.specs.FoldSteps.{rem, near, far, nearer, farther, upper, lower, next, sixty, quotient, product, paired, three};
 use crate::raw;
 
-// The checksum of the bytes up to byte i + 8, for which the word w stands, continued over the words behind them.
+// The checksum of the bytes before byte i, for which the word w stands, continued over the words from there on.
 pub(crate) fn words(bytes: &[u8], i: usize, w: u64) -> u32
-    requires { ⌜ (i + 8 ≤ length (now bytes)) × ((length (now bytes) % 8) ≡ i) ⌝ }
-    ensures { λ r. ⌜ r ≡ crcFrom (rem 64 w) (drop (i + 8) (now (bytes .entry))) ⌝ }
+    requires { ⌜ (i ≤ length (now bytes)) × ((length (now bytes) % 8) ≡ i % 8) ⌝ }
+    ensures { λ r. ⌜ r ≡ crcFrom (rem 64 w) (drop i (now (bytes .entry))) ⌝ }
 {
     let mut a: u64 = 0;
     let mut b: u64 = 0;
     let mut c = w;
-    let mut at = i + 8;
+    let mut at = i;
     while at < bytes.len() {
         let x = raw::eight_at(bytes, at) ^ far(a);
         let y = c ^ near(a);

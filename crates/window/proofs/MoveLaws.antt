@@ -5,9 +5,9 @@ use native.Mathlib.Nat.{zero-mul, one-mul, add-comm}
 use native.Mathlib.Omega.{arith}
 use lib.Bits.{bitXor, xor-shr, xor-zero-r}
 use Rattle.bits.specs.Crc.{crcBit, crcBits, crcByte}
-use Rattle.bits.proofs.CrcLaws.{bit-is, bits-none, bits-more, byte-is, bits-linear}
+use Rattle.bits.proofs.CrcLaws.{bit-is, bits-none, bits-zero, bits-more, byte-is, bits-linear}
 use Rattle.bits.proofs.XorLaws.{xor-shl}
-use Rattle.bits.proofs.RemLaws.{bits-add, bits-zero}
+use Rattle.bits.proofs.RemLaws.{bits-add}
 use Rattle.bits.proofs.LinearLaws.{Linear, linear-zero, by-test, mod-linear, xor-linear}
 use Rattle.window.specs.Steps.{low}
 

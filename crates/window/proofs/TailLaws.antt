@@ -12,9 +12,9 @@ use Rattle.bits.specs.Onto.{onto, over}
 use Rattle.bits.specs.Fields.{Bytes}
 use Rattle.bits.specs.Field.{field}
 use Rattle.bits.specs.Crc.{crcBits, crcByte, crcFrom, crc}
-use Rattle.bits.proofs.CrcLaws.{bits-none, byte-is, from-nil, from-cons, crc-is, bits-linear, crc-below, crc-append}
+use Rattle.bits.proofs.CrcLaws.{bits-none, bits-zero, byte-is, from-nil, from-cons, crc-is, bits-linear, crc-below, crc-append}
 use Rattle.bits.proofs.FieldLaws.{field-lt}
-use Rattle.bits.proofs.RemLaws.{bits-add, bits-zero}
+use Rattle.bits.proofs.RemLaws.{bits-add}
 use Rattle.bits.proofs.XorLaws.{xor-assoc}
 use Rattle.damage.proofs.BackLaws.{xor-none, xor-cancel, bits-back}
 use Rattle.damage.proofs.FeedLaws.{feed-24, feed-bytes}

@@ -1,15 +1,21 @@
--- The checksum starts at 0. Assumes nothing.
+-- Fewer than eight bytes by the table, else words. Assumes nothing.
+use mathlib.Core.Path.{sym, _∙_}
 use borrow.Author.Needs.{needs}
-use Rattle.bits.specs.Crc.{crc}
+use Rattle.bits.proofs.CrcLaws.{crc-is}
 use Rattle.bits.proofs.crc.crc24q.Statement.{statement}
 use Rattle.bits.proofs.crc.crc24q.Tie as tie
 
-crc24q-from-requires : tie.Need-crc24q-from-requires
-crc24q-from-requires c κs = search needs
+by-table-requires : tie.Need-by-table-requires
+by-table-requires c κs = search needs
 
 returns : tie.Need-returns
-unfolding crc
-returns c = c .crc24q-from .ensures
+returns c = c .by-table .ensures ∙ sym (crc-is _)
+
+by-words-requires : tie.Need-by-words-requires
+by-words-requires c κs = search needs
+
+returns-2 : tie.Need-returns-2
+returns-2 c = c .by-words .ensures
 
 pub crc24q-spec : {M : Type 1} → statement M
-crc24q-spec = tie.close (tie.spec crc24q-from-requires returns)
+crc24q-spec = tie.close (tie.spec by-table-requires returns by-words-requires returns-2)

@@ -33,6 +33,9 @@ eight-at-requires c κs = search needs
 cast-words : tie.Need-cast-words
 cast-words c = search needs
 
+add-words : tie.Need-add-words
+add-words c = search needs
+
 words-requires : tie.Need-words-requires
 words-requires c κs = search needs
 
@@ -58,6 +61,7 @@ crc24q-from-spec =
     by-table-requires
     returns
     eight-at-requires
+    add-words
     cast-words
     words-requires
     returns-2)

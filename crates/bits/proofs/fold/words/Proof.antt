@@ -16,19 +16,16 @@ use Rattle.bits.proofs.fold.words.Tie as tie
 abbrev Inv-loop : tie.InvT-loop
 Inv-loop bytes i w a₀ b₀ c₀ at₀ a b c at =
     (at ≤ length bytes) × (at % 8 ≡ length bytes % 8) × (a < 2 ^ 64) × (b < 2 ^ 64) × (c < 2 ^ 64)
-    × (crcFrom (three a b c) (drop at bytes) ≡ crcFrom (rem 64 w) (drop (i + 8) bytes))
+    × (crcFrom (three a b c) (drop at bytes) ≡ crcFrom (rem 64 w) (drop i bytes))
 
 abbrev μ-loop : tie.MeasureT-loop
 μ-loop bytes i w a₀ b₀ c₀ at₀ a b c at = length bytes - at
-
-add-at : tie.Need-add-at Inv-loop μ-loop
-add-at c = search needs
 
 loop-holds : tie.Need-loop-holds Inv-loop μ-loop
 loop-holds c =
     let a = c .before .args in
     let p = c .before .pre in
-    (p .0, omega arith, omega arith, omega arith, c .before .fits .w .fits, ap (λ z. crcFrom z (drop (a .i + 8) (a .bytes .now))) (alone (a .w)))
+    (p .0, omega arith, omega arith, omega arith, c .before .fits .w .fits, ap (λ z. crcFrom z (drop (a .i) (a .bytes .now))) (alone (a .w)))
 
 eight-at-requires : tie.Need-eight-at-requires Inv-loop μ-loop
 eight-at-requires c κs =
@@ -41,8 +38,8 @@ far-requires c κs = search needs
 near-requires : tie.Need-near-requires Inv-loop μ-loop
 near-requires c κs = search needs
 
-add-at-2 : tie.Need-add-at-2 Inv-loop μ-loop
-add-at-2 c =
+add-at : tie.Need-add-at Inv-loop μ-loop
+add-at c =
     let l = c .before .before .before .before .loop in
     omega (arith, l .inv .0, l .inv .1, c .before .before .before .loop-test .taken, c .before .before .before .before .before .before .good .0 .0)
 
@@ -88,12 +85,11 @@ words-spec =
     (tie.spec
     Inv-loop
     μ-loop
-    add-at
     loop-holds
     eight-at-requires
     far-requires
     near-requires
-    add-at-2
+    add-at
     loop-less
     loop-again
     close-requires
