@@ -1,5 +1,5 @@
 -- Each case of the code: the tests of a key, a value and an entry, and the cases of each call. Assumes nothing.
-use mathlib.Core.Path.{_≡_, refl, ap, ap₂, _∙_}
+use mathlib.Core.Path.{_≡_, refl, sym, ap, ap₂, _∙_}
 use mathlib.Core.List.{List, [], _∷_}
 use mathlib.Core.Option.{none, some}
 use mathlib.Core.Bool.{Bool, true, false, cond, _&&_, false≢true}
@@ -7,9 +7,10 @@ use Prim.Native.Nat.{ℕ, suc, _+_, _-_, _^_, _≤_, _<_}
 use native.Mathlib.Omega.{arith}
 use lib.ListN.{length, set, getD}
 use lib.Dec.{ltb, eqb}
-use borrow.Author.Tests.{ltb-true, ltb-false, lt-ltb, le-ltb, eq-eqb, ne-eqb}
+use borrow.Author.Tests.{ltb-true, ltb-false, lt-ltb, le-ltb, eq-eqb, ne-eqb, eqb-true, eqb-false}
 use Rattle.bits.specs.Told.{Accepted, range, size, full, absent}
 use Rattle.bits.specs.Outcome.{outcome}
+use Rattle.cache.specs.Steps.{asOne}
 use Rattle.cache.specs.Cache.{Key, key, same, Value, value, fitsKey, fitsValue, free, keyIn, widened, valueIn, hasKey, entryOf, blank, first, find, Store, Remove, Lookup, fits, storeAt, removeAt, act, step}
 
 both : (a b : Bool) → a && b ≡ true → (a ≡ true) × (b ≡ true)
@@ -89,29 +90,40 @@ no-value = refl
 
 -- ---- one entry
 
+-- four numbers of 16 bits are read off the one number
+apart : (p s a g q t b h : ℕ) → p < 2 ^ 16 → s < 2 ^ 16 → a < 2 ^ 16 → q < 2 ^ 16 → t < 2 ^ 16 → b < 2 ^ 16 → asOne p s a g ≡ asOne q t b h
+    → (p ≡ q) × (s ≡ t) × (a ≡ b) × (g ≡ h)
+unfolding asOne
+apart p s a g q t b h lp ls la lq lt lb e = (omega arith, omega arith, omega arith, omega arith)
+
+-- so one comparison tells whether two keys are the same
+pub compared : (p s a g q t b h : ℕ) → p < 2 ^ 16 → s < 2 ^ 16 → a < 2 ^ 16 → q < 2 ^ 16 → t < 2 ^ 16 → b < 2 ^ 16
+    → eqb (asOne p s a g) (asOne q t b h) ≡ same (key p s a g) (key q t b h)
+unfolding same
+compared p s a g q t b h lp ls la lq lt lb = go (eqb (asOne p s a g) (asOne q t b h)) refl (same (key p s a g) (key q t b h)) refl
+  where
+    go : (c : Bool) → eqb (asOne p s a g) (asOne q t b h) ≡ c → (d : Bool) → same (key p s a g) (key q t b h) ≡ d
+        → eqb (asOne p s a g) (asOne q t b h) ≡ same (key p s a g) (key q t b h)
+    go true e d r =
+        let x = apart p s a g q t b h lp ls la lq lt lb (eqb-true _ _ e) in
+        e ∙ simp (eq-eqb _ _ (x .0), eq-eqb _ _ (x .1), eq-eqb _ _ (x .2), eq-eqb _ _ (x .3))
+    go false e false r = e ∙ sym r
+    go false e true r =
+        let x = both (eqb p q) _ r in
+        let y = both (eqb s t) _ (x .1) in
+        let z = both (eqb a b) _ (y .1) in
+        let alike : asOne p s a g ≡ asOne q t b h =
+        ap₂ (λ i j. asOne i j a g) (eqb-true p q (x .0)) (eqb-true s t (y .0)) ∙ ap₂ (asOne q t) (eqb-true a b (z .0)) (eqb-true g h (z .1)) in
+        absurd (eqb-false (asOne p s a g) (asOne q t b h) e alike)
+
 module _ (e w : List ℕ) where
   pub is-free : getD e 0 0 ≡ 0 → false ≡ hasKey (keyIn w) e
   unfolding hasKey
   is-free z = simp (eq-eqb _ _ z)
 
-  module _ (n : getD e 0 0 ≡ 0 → ⊥) where
-    pub other-provider : (getD e 1 0 ≡ getD w 1 0 → ⊥) → false ≡ hasKey (keyIn w) e
-    unfolding hasKey same
-    other-provider p = simp (ne-eqb _ _ n, ne-eqb _ _ p)
-
-    module _ (p : getD e 1 0 ≡ getD w 1 0) where
-      pub other-solution : (getD e 2 0 ≡ getD w 2 0 → ⊥) → false ≡ hasKey (keyIn w) e
-      unfolding hasKey same
-      other-solution s = simp (ne-eqb _ _ n, eq-eqb _ _ p, ne-eqb _ _ s)
-
-      module _ (s : getD e 2 0 ≡ getD w 2 0) where
-        pub other-satellite : (getD e 3 0 ≡ getD w 3 0 → ⊥) → false ≡ hasKey (keyIn w) e
-        unfolding hasKey same
-        other-satellite a = simp (ne-eqb _ _ n, eq-eqb _ _ p, eq-eqb _ _ s, ne-eqb _ _ a)
-
-        pub last-signal : getD e 3 0 ≡ getD w 3 0 → eqb (getD e 4 0) (getD w 4 0) ≡ hasKey (keyIn w) e
-        unfolding hasKey same
-        last-signal a = simp (ne-eqb _ _ n, eq-eqb _ _ p, eq-eqb _ _ s, eq-eqb _ _ a)
+  pub in-use : (getD e 0 0 ≡ 0 → ⊥) → same (keyIn e) (keyIn w) ≡ hasKey (keyIn w) e
+  unfolding hasKey
+  in-use n = simp (ne-eqb _ _ n)
 
 pub stays : (x : ℕ) → x < 32768 → x ≡ widened x
 unfolding widened

@@ -1,3 +1,4 @@
 pub mod Cache
 pub mod Runs
 pub mod Answers
+pub mod Steps

@@ -6,6 +6,7 @@ ghost use Prim.Native.Nat.{_%_, _^_, _<_};
 ghost use lib.ListN.{length};
 ghost use Rattle.bits.specs.Outcome.{outcome};
 ghost use Rattle.cache.specs.Cache.{value, keyIn, free, hasKey, widened, entryOf, first, fitsKey, fitsValue, Store, Remove, Lookup, step};
+ghost use Rattle.cache.specs.Steps.{asOne};
 ghost use Rattle.cache.specs.Answers.{keyOf, toldStored, toldRemoved, toldFound};
 
 // What an entry is stored under.
@@ -182,16 +183,17 @@ pub fn has_key(e: [u16; 7], w: [u16; 7]) -> bool
     if e[0] == 0 {
         return false;
     }
-    if e[1] != w[1] {
-        return false;
-    }
-    if e[2] != w[2] {
-        return false;
-    }
-    if e[3] != w[3] {
-        return false;
-    }
-    e[4] == w[4]
+    as_one(e[1], e[2], e[3], e[4]) == as_one(w[1], w[2], w[3], w[4])
+}
+
+// The four numbers of a key as one, so that one comparison tells whether all are the same. In this form it is one load.
+fn as_one(provider: u16, solution: u16, satellite: u16, signal: u16) -> u64
+    ensures { λ r. ⌜ (r ≡ asOne provider solution satellite signal) × (provider < 2 ^ 16) × (solution < 2 ^ 16) × (satellite < 2 ^ 16) × (signal < 2 ^ 16) ⌝ }
+{
+    (provider as u64)
+        + (solution as u64) * 0x1_0000
+        + (satellite as u64) * 0x1_0000_0000
+        + (signal as u64) * 0x1_0000_0000_0000
 }
 
 // 16 bits of two's complement in 32.
