@@ -165,7 +165,7 @@ $(B)/opt/test_calls_shared: $(B)/opt/test_calls.o $(SHARED)
 
 # The benchmark, alone and with the Rust and RTKLIB, whose archives RUST_ARCHIVE and RTKLIB_ARCHIVE name.
 BENCH := $(B)/opt/bench$(if $(RUST_ARCHIVE),_rust)$(if $(RTKLIB_ARCHIVE),_rtklib)
-BENCH_OBJECTS := $(patsubst %,$(B)/opt/%.o,bench bench_rows plain plain_table \
+BENCH_OBJECTS := $(patsubst %,$(B)/opt/%.o,bench bench_rows bench_memory plain plain_table \
     bench_rust$(if $(RUST_ARCHIVE),_linked) bench_rtklib$(if $(RTKLIB_ARCHIVE),_linked))
 
 $(B)/opt/bench_rtklib_linked.o: c/bench_rtklib.c Makefile
@@ -322,6 +322,7 @@ bench: $(ARCHIVE)
 
 bench-run: $(BENCH)
 	$(BENCH)
+	@size $(ARCHIVE) | awk 'NR > 1 { code += $$1; rest += $$2 + $$3 } END { printf "size of the library: %d bytes of code and constants, %d of variables\n", code, rest }'
 
 $(B)/opt/bench_worst: $(B)/opt/bench_worst.o $(ARCHIVE)
 	$(CC) $(LDFLAGS) $^ -o $@

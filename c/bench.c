@@ -172,6 +172,7 @@ int main(void)
     print_limit("writing 1059, to the plain program", costs.write.to[PLAIN], " times", 2, true);
     limits_of_messages();
     limit_of_cache();
+    print_memory();
     free(clean.at);
     return all_met ? 0 : 1;
 }
