@@ -147,10 +147,10 @@ fn limits_of(n: usize, width: usize) -> Limits
     if width == 0 {
         return Limits::Width;
     }
-    if 64 < width {
-        return Limits::Width;
+    if width < 65 {
+        return Limits::Kept;
     }
-    Limits::Kept
+    Limits::Width
 }
 
 // The refusal of a field that ends behind the `all` bits of the data: it lacks what lies behind them, which is all of it
