@@ -5,6 +5,7 @@ use mathlib.Core.List.{List, [], _∷_}
 use Prim.Native.Nat.{ℕ, zero, suc, _+_, _-_, _*_, _≤_, _<_}
 use native.Mathlib.Nat.{not-suc-le-zero, le-of-suc-le-suc}
 use native.Mathlib.Omega.{arith}
+use native.Mathlib.Decide.{ℕ-discrete}
 use lib.ListN.{length, getD, take, drop, length-drop, List·getD-eq-default}
 use lib.Seq.{getD-drop, drop-drop}
 use lib.Dec.{eqb}
@@ -184,3 +185,21 @@ only-d3 mode x e s = eqb-true x 0xD3 (rw (eq-eqb mode 0 e) at s)
 
 pub else-d3 : (mode x : ℕ) → (mode ≡ 0 → ⊥) → (x ≡ 0xB5 → ⊥) → startsIn mode x ≡ true → x ≡ 0xD3
 else-d3 mode x n e s = eqb-true x 0xD3 (rw (ne-eqb mode 0 n, ne-eqb x 0xB5 e) at s)
+
+-- a B5 starts no frame of RTCM only; a start byte that is not B5 is D3, and decided as one of RTCM
+pub b5-both : (mode x : ℕ) → x ≡ 0xB5 → startsIn mode x ≡ true → mode ≡ 0 → ⊥
+b5-both mode x e s z = let d : x ≡ 0xD3 = only-d3 mode x z s in omega arith
+
+pub other-d3 : (mode x : ℕ) → (x ≡ 0xB5 → ⊥) → startsIn mode x ≡ true → x ≡ 0xD3
+other-d3 mode x e s = go (ℕ-discrete mode 0)
+  where
+    go : Dec (mode ≡ 0) → x ≡ 0xD3
+    go (yes q) = only-d3 mode x q s
+    go (no q) = else-d3 mode x q e s
+
+pub at-other : (mode : ℕ) (t : List ℕ) → (getD t 0 0 ≡ 0xB5 → ⊥) → candidate rtcm t ≡ candidate (framingOf mode) t
+at-other mode t e = go (ℕ-discrete mode 0)
+  where
+    go : Dec (mode ≡ 0) → candidate rtcm t ≡ candidate (framingOf mode) t
+    go (yes q) = only-rtcm mode t q
+    go (no q) = at-d3 mode t q e

@@ -135,7 +135,8 @@ pub(crate) struct Judged {
     pub windows: Windows,
 }
 
-// The check of the start byte at place i, by the window of its kind.
+// The check of the start byte at place i, by the window of its kind. Each way is called in one place, so that the compiler
+// puts it into the caller's loop.
 pub(crate) fn judge(
     held: &[u8],
     piece: &[u8],
@@ -148,9 +149,6 @@ pub(crate) fn judge(
     requires { ⌜ (i < length (now held) + length (now piece)) × (length (now held) + length (now piece) < 2 ^ 64) × (startsIn mode (getD (now held ++ now piece) i 0) ≡ true) × (at .base ≤ i) × (at .«ubx_base» ≤ i) × Ready mode (now held ++ now piece) (now sums) (now runs) (at .base) (at .stop) (at .«ubx_base») (at .«ubx_stop») ⌝ }
     ensures { λ r. ⌜ (r .candidate ≡ candidate (framingOf mode) (drop i (now (held .entry) ++ now (piece .entry)))) × (r .windows .base ≤ i) × (r .windows .«ubx_base» ≤ i) × Ready mode (now (held .entry) ++ now (piece .entry)) (now (sums .exit)) (now (runs .exit)) (r .windows .base) (r .windows .stop) (r .windows .«ubx_base») (r .windows .«ubx_stop») × (length (now (runs .exit)) ≡ length (now (runs .entry))) ⌝ }
 {
-    if mode == 0 {
-        return by_tails(held, piece, at, i, sums);
-    }
     if scan::byte_at(held, piece, i) == 0xB5 {
         return by_runs(held, piece, at, i, runs);
     }
