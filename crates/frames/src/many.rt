@@ -31,14 +31,50 @@ pub(crate) fn find_on(held: &[u8], piece: &[u8], mode: u32, from: usize, first: 
     ensures { λ r. ⌜ r ≡ searched (feed (decide (framingOf mode)) (now (held .entry)) (now (piece .entry))) ⌝ }
 {
     if mode == 0 {
-        let mut none = [0u32; 1];
-        return find_by(held, piece, mode, from, first, &mut none);
+        return find_rtcm(held, piece, from, first);
     }
     let mut runs = [0u32; 4097];
     find_by(held, piece, mode, from, first, &mut runs)
 }
 
-// The same, by windows. The first one is small, since a frame may stand near.
+// The same for RTCM only. The first window is a small one, since a frame may stand near.
+fn find_rtcm(held: &[u8], piece: &[u8], from: usize, first: usize) -> Searched
+    requires { ⌜ (Reached (framingOf 0) (now held) (now piece) from (first - length (now held))) × (length (now held) ≤ first) × (length (now held) + length (now piece) < 2 ^ 64) ⌝ }
+    ensures { λ r. ⌜ r ≡ searched (feed (decide (framingOf 0)) (now (held .entry)) (now (piece .entry))) ⌝ }
+{
+    let h = held.len();
+    let all = h + piece.len();
+    let mut sums = [0u32; 4097];
+    let near = open(held, piece, from, 1536, &mut sums);
+    let mut base = near.base;
+    let mut stop = near.stop;
+    let mut i = from;
+    let mut end = first;
+    while i < all {
+        let j = scan::next_start(held, piece, i, 0);
+        if all <= j {
+            return Searched::More(j);
+        }
+        let window = cover(held, piece, base, stop, j, &mut sums);
+        base = window.base;
+        stop = window.stop;
+        match rtcm_in(held, piece, base, stop, j, &sums) {
+            Candidate::Incomplete => {
+                return Searched::More(j);
+            }
+            Candidate::Good(n) => {
+                return Searched::Frame(j, n, scan::most(end, j + n) - h);
+            }
+            Candidate::NotValid(n) => {
+                end = scan::most(end, j + n);
+                i = j + 1;
+            }
+        }
+    }
+    Searched::More(i)
+}
+
+// The same for both kinds.
 fn find_by(
     held: &[u8],
     piece: &[u8],
