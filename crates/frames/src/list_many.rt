@@ -28,14 +28,60 @@ pub(crate) fn list_on(
     ensures { λ r. ⌜ (r, now (starts .exit), now (lengths .exit)) ≡ listOn (room - reached .count) (reached .count) (reached .stop) (reached .framed) (scan (decide (framingOf mode)) (drop (reached .stop) (now (held .entry) ++ now (piece .entry))) .items) (now (starts .entry)) (now (lengths .entry)) ⌝ }
 {
     if mode == 0 {
-        let mut none = [0u32; 1];
-        return list_by(held, piece, mode, room, reached, &mut none, starts, lengths);
+        return list_rtcm(held, piece, room, reached, starts, lengths);
     }
     let mut runs = [0u32; 4097];
     list_by(held, piece, mode, room, reached, &mut runs, starts, lengths)
 }
 
-// The same, by windows. The first one is small, since many frames may stand near.
+// The same of RTCM only. The first window is a small one, since many frames may stand near.
+fn list_rtcm(
+    held: &[u8],
+    piece: &[u8],
+    room: usize,
+    reached: Listing,
+    starts: &mut [u32],
+    lengths: &mut [u32],
+) -> Listing
+    requires { ⌜ Sizes (length (now held)) (length (now piece)) room (now starts) (now lengths) × Within (length (now held) + length (now piece)) room reached ⌝ }
+    ensures { λ r. ⌜ (r, now (starts .exit), now (lengths .exit)) ≡ listOn (room - reached .count) (reached .count) (reached .stop) (reached .framed) (scan (decide (framingOf 0)) (drop (reached .stop) (now (held .entry) ++ now (piece .entry))) .items) (now (starts .entry)) (now (lengths .entry)) ⌝ }
+{
+    let all = held.len() + piece.len();
+    let mut i = reached.stop;
+    let mut k = reached.count;
+    let mut framed = reached.framed;
+    let mut sums = [0u32; 4097];
+    let near = many::open(held, piece, i, 1536, &mut sums);
+    let mut base = near.base;
+    let mut stop = near.stop;
+    while k < room {
+        let at = scan::next_start(held, piece, i, 0);
+        if all <= at {
+            return list::ended(k, at, framed, false);
+        }
+        let window = many::cover(held, piece, base, stop, at, &mut sums);
+        base = window.base;
+        stop = window.stop;
+        match many::rtcm_in(held, piece, base, stop, at, &sums) {
+            Candidate::Incomplete => {
+                return list::ended(k, at, framed, false);
+            }
+            Candidate::NotValid(_) => {
+                i = at + 1;
+            }
+            Candidate::Good(n) => {
+                starts[k] = at as u32;
+                lengths[k] = n as u32;
+                framed += n;
+                k += 1;
+                i = at + n;
+            }
+        }
+    }
+    list::ended(k, i, framed, true)
+}
+
+// The same of both kinds.
 fn list_by(
     held: &[u8],
     piece: &[u8],

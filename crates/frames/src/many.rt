@@ -131,7 +131,14 @@ fn find_by(
 
 // The window that serves a candidate at place i: the one at hand, if it reaches as far as a candidate can; else a new one
 // from there on.
-fn cover(held: &[u8], piece: &[u8], base: usize, stop: usize, i: usize, sums: &mut [u32]) -> Window
+pub(crate) fn cover(
+    held: &[u8],
+    piece: &[u8],
+    base: usize,
+    stop: usize,
+    i: usize,
+    sums: &mut [u32],
+) -> Window
     requires { ⌜ (i < length (now held) + length (now piece)) × (length (now held) + length (now piece) < 2 ^ 64) × (length (now sums) ≡ 4097) × (base ≤ i) × Tails (now held ++ now piece) (now sums) base stop ⌝ }
     ensures { λ r. ⌜ (r .base ≤ i) × (i + min (length (now (held .entry)) + length (now (piece .entry)) - i) 1029 ≤ r .stop) × Tails (now (held .entry) ++ now (piece .entry)) (now (sums .exit)) (r .base) (r .stop) × (length (now (sums .exit)) ≡ 4097) ⌝ }
 {
@@ -302,7 +309,14 @@ fn sums_in(
 }
 
 // The frame check of the D3 at place i, by the window.
-fn rtcm_in(held: &[u8], piece: &[u8], base: usize, stop: usize, i: usize, sums: &[u32]) -> Candidate
+pub(crate) fn rtcm_in(
+    held: &[u8],
+    piece: &[u8],
+    base: usize,
+    stop: usize,
+    i: usize,
+    sums: &[u32],
+) -> Candidate
     requires { ⌜ (i < length (now held) + length (now piece)) × (length (now held) + length (now piece) < 2 ^ 64) × (getD (now held ++ now piece) i 0 ≡ 0xD3) × (base ≤ i) × (i + min (length (now held) + length (now piece) - i) 1029 ≤ stop) × Tails (now held ++ now piece) (now sums) base stop ⌝ }
     ensures { λ r. ⌜ r ≡ candidate rtcm (drop i (now (held .entry) ++ now (piece .entry))) ⌝ }
 {

@@ -1,0 +1,224 @@
+-- The loop has come to place i with k frames listed, and a window that begins at or before place i is at hand. Assumes nothing.
+use mathlib.Core.Path.{_≡_, refl, sym, _∙_}
+use mathlib.Core.List.{_++_}
+use Prim.Native.Nat.{_+_, _-_, _≤_}
+use native.Mathlib.Omega.{arith}
+use lib.ListN.{length, drop, length-append}
+use borrow.Author.Tests.{eqb-true}
+use borrow.Author.Needs.{needs}
+use Rattle.frames.specs.Scan.{scan}
+use Rattle.frames.specs.Framing.{decide}
+use Rattle.frames.specs.Modes.{framingOf}
+use Rattle.frames.specs.Steps.{startsIn, Tails}
+use Rattle.frames.specs.ListSteps.{listOn}
+use Rattle.frames.proofs.ModeLaws.{lawful}
+use Rattle.frames.proofs.StartLaws.{mode-starts}
+use Rattle.frames.proofs.ListLaws.{Came, tells, at-start, ends-full, ends-all, ends-short, passes, good-few, good-inside, good-some, lists}
+use Rattle.frames.proofs.list_many.list_rtcm.Statement.{statement}
+use Rattle.frames.proofs.list_many.list_rtcm.Tie as tie
+
+abbrev Inv-loop : tie.InvT-loop
+Inv-loop held piece room starts₀ lengths₀ all i₀ k₀ framed₀ sums₀ base₀ stop₀ starts lengths i k framed sums base stop =
+    Came (framingOf 0) (lawful 0) (startsIn 0) (mode-starts 0) (held ++ piece) room
+    (listOn (room - k₀) k₀ i₀ framed₀ (scan (decide (framingOf 0)) (drop i₀ (held ++ piece)) .items) starts₀ lengths₀) (length starts₀) (length lengths₀) k i framed starts lengths
+    × (base ≤ i) × Tails (held ++ piece) sums base stop × (length sums ≡ 4097)
+
+abbrev μ-loop : tie.MeasureT-loop
+μ-loop held piece room starts₀ lengths₀ all i₀ k₀ framed₀ sums₀ base₀ stop₀ starts lengths i k framed sums base stop = length held + length piece - i
+
+add-all : tie.Need-add-all Inv-loop μ-loop
+add-all c = record { fits = omega (arith, c .before .before .before .before .pre .0 .held, c .before .before .before .before .pre .0 .piece) }
+
+slice-aggregate-open : tie.Need-slice-aggregate-open Inv-loop μ-loop
+slice-aggregate-open c = search needs
+
+open-requires : tie.Need-open-requires Inv-loop μ-loop
+open-requires c κs = let p = c .before .before .before .before .before .pre in (p .1 .inside, omega (arith, p .0 .held, p .0 .piece), omega arith, refl)
+
+loop-holds : tie.Need-loop-holds Inv-loop μ-loop
+loop-holds c =
+    let a = c .before .before .before .before .before .before .before .args in
+    let p = c .before .before .before .before .before .before .before .pre .1 in
+    let w = c .before .«open» .ensures in
+    (record { leads = refl; inside = omega (arith, p .inside, length-append (a .held .now) (a .piece .now)); counted = p .counted; each = p .each; most = p .most; starts = refl; lengths = refl }, omega (arith, w .0), w .2, w .3)
+
+next-start-requires : tie.Need-next-start-requires Inv-loop μ-loop
+next-start-requires c κs =
+    let a = c .before .before .before .before .before .before .before .before .before .args in
+    let p = c .before .before .before .before .before .before .before .before .before .pre .0 in
+    (omega (arith, c .before .loop .inv .0 .inside, length-append (a .held .now) (a .piece .now)), omega (arith, p .held, p .piece))
+
+ended-requires : tie.Need-ended-requires Inv-loop μ-loop
+ended-requires c κs = search needs
+
+same-length : tie.Need-same-length Inv-loop μ-loop
+same-length c = c .before .before .before .before .loop .inv .0 .starts
+
+same-length-2 : tie.Need-same-length-2 Inv-loop μ-loop
+same-length-2 c = c .before .before .before .before .loop .inv .0 .lengths
+
+returns : tie.Need-returns Inv-loop μ-loop
+returns c =
+    let a = c .before .before .before .before .before .before .before .before .before .before .before .before .args in
+    tells (c .ended .ensures) (ends-all _ _ _ _ _ _ _ _ _ _ _ _ _ _ (at-start _ _ _ _ _ _ _ _ _ _ _ _ _ _ (c .before .before .before .before .loop .inv .0) (c .before .before .before .loop-test .taken) _ (c .before .before .next-start .ensures)) (c .before .before .before .loop-test .taken) (omega (arith, length-append (a .held .now) (a .piece .now))))
+
+slice-aggregate-cover : tie.Need-slice-aggregate-cover Inv-loop μ-loop
+slice-aggregate-cover c = search needs
+
+cover-requires : tie.Need-cover-requires Inv-loop μ-loop
+cover-requires c κs =
+    let p = c .before .before .before .before .before .before .before .before .before .before .before .before .pre .0 in
+    let l = c .before .before .before .before .loop .inv in
+    (omega arith, omega (arith, p .held, p .piece), l .3, omega (arith, l .1, c .before .before .next-start .ensures .from), l .2)
+
+slice-aggregate-rtcm-in : tie.Need-slice-aggregate-rtcm-in Inv-loop μ-loop
+slice-aggregate-rtcm-in c = search needs
+
+rtcm-in-requires : tie.Need-rtcm-in-requires Inv-loop μ-loop
+rtcm-in-requires c κs =
+    let a = c .before .before .before .before .before .before .before .before .before .before .before .before .before .before .before .args in
+    let p = c .before .before .before .before .before .before .before .before .before .before .before .before .before .before .before .pre .0 in
+    let w = c .before .before .cover .ensures in
+    (omega arith, omega (arith, p .held, p .piece), eqb-true _ _ (c .before .before .before .before .before .next-start .ensures .there (omega (arith, length-append (a .held .now) (a .piece .now)))), w .0, w .1, w .2)
+
+enum-told : tie.Need-enum-told Inv-loop μ-loop
+enum-told c = search needs
+
+ended-requires-2 : tie.Need-ended-requires-2 Inv-loop μ-loop
+ended-requires-2 c κs = search needs
+
+same-length-3 : tie.Need-same-length-3 Inv-loop μ-loop
+same-length-3 c = c .before .before .before .before .before .before .before .before .before .before .before .loop .inv .0 .starts
+
+same-length-4 : tie.Need-same-length-4 Inv-loop μ-loop
+same-length-4 c = c .before .before .before .before .before .before .before .before .before .before .before .loop .inv .0 .lengths
+
+returns-2 : tie.Need-returns-2 Inv-loop μ-loop
+returns-2 c = tells (c .ended2 .ensures) (ends-short _ _ _ _ _ _ _ _ _ _ _ _ _ _ (at-start _ _ _ _ _ _ _ _ _ _ _ _ _ _ (c .before .before .before .before .before .before .before .before .before .before .before .loop .inv .0) (c .before .before .before .before .before .before .before .before .before .before .loop-test .taken) _ (c .before .before .before .before .before .before .before .before .before .next-start .ensures)) (c .before .before .before .before .before .before .before .before .before .before .loop-test .taken) (sym (c .before .enum-told .given .1) ∙ c .before .before .before .rtcm-in .ensures))
+
+enum-told-2 : tie.Need-enum-told-2 Inv-loop μ-loop
+enum-told-2 c = search needs
+
+add-i : tie.Need-add-i Inv-loop μ-loop
+add-i c = let p = c .before .before .before .before .before .before .before .before .before .before .before .before .before .before .before .before .before .before .pre .0 in record { fits = omega (arith, p .held, p .piece) }
+
+loop-less : tie.Need-loop-less Inv-loop μ-loop
+loop-less c = omega (arith, c .before .before .before .before .before .before .before .before .next-start .ensures .from)
+
+loop-again : tie.Need-loop-again Inv-loop μ-loop
+loop-again c =
+    let w = c .before .before .before .before .before .cover .ensures in
+    (passes _ _ _ _ _ _ _ _ _ _ _ _ _ _ (at-start _ _ _ _ _ _ _ _ _ _ _ _ _ _ (c .before .before .before .before .before .before .before .before .before .before .loop .inv .0) (c .before .before .before .before .before .before .before .before .before .loop-test .taken) _ (c .before .before .before .before .before .before .before .before .next-start .ensures)) (c .before .before .before .before .before .before .before .before .before .loop-test .taken) _ (sym (c .enum-told2 .given .1) ∙ c .before .before .rtcm-in .ensures), omega (arith, w .0), w .2, w .3)
+
+enum-known-n : tie.Need-enum-known-n Inv-loop μ-loop
+enum-known-n c = search needs
+
+cast-starts : tie.Need-cast-starts Inv-loop μ-loop
+cast-starts c = let p = c .before .before .before .before .before .before .before .before .before .before .before .before .before .before .before .before .before .before .before .pre .0 in omega (arith, p .held, p .piece)
+
+mul-starts : tie.Need-mul-starts Inv-loop μ-loop
+mul-starts c =
+    let a = c .before .before .before .before .before .before .before .before .before .before .before .before .before .before .before .before .before .before .before .args in
+    let p = c .before .before .before .before .before .before .before .before .before .before .before .before .before .before .before .before .before .before .before .pre .0 in
+    let l = c .before .before .before .before .before .before .before .before .before .before .before .loop .inv .0 in
+    record { fits = omega (arith, p .held, p .piece, l .each, l .counted, l .inside, length-append (a .held .now) (a .piece .now)) }
+
+slice-write-starts : tie.Need-slice-write-starts Inv-loop μ-loop
+slice-write-starts c = omega (arith, c .before .before .before .before .before .before .before .before .before .before .before .loop .inv .0 .starts, c .before .before .before .before .before .before .before .before .before .before .before .before .before .before .before .before .before .before .before .pre .0 .starts)
+
+cast-lengths : tie.Need-cast-lengths Inv-loop μ-loop
+cast-lengths c = omega (arith, good-few _ _ _ _ _ _ _ _ _ _ _ _ _ _ (at-start _ _ _ _ _ _ _ _ _ _ _ _ _ _ (c .before .before .before .before .before .before .before .before .before .before .before .loop .inv .0) (c .before .before .before .before .before .before .before .before .before .before .loop-test .taken) _ (c .before .before .before .before .before .before .before .before .before .next-start .ensures)) (c .before .before .before .before .before .before .before .before .before .before .loop-test .taken) _ (sym (c .before .n .given .1) ∙ c .before .before .before .rtcm-in .ensures))
+
+mul-lengths : tie.Need-mul-lengths Inv-loop μ-loop
+mul-lengths c =
+    let a = c .before .before .before .before .before .before .before .before .before .before .before .before .before .before .before .before .before .before .before .args in
+    let p = c .before .before .before .before .before .before .before .before .before .before .before .before .before .before .before .before .before .before .before .pre .0 in
+    let l = c .before .before .before .before .before .before .before .before .before .before .before .loop .inv .0 in
+    record { fits = omega (arith, p .held, p .piece, l .each, l .counted, l .inside, length-append (a .held .now) (a .piece .now)) }
+
+slice-write-lengths : tie.Need-slice-write-lengths Inv-loop μ-loop
+slice-write-lengths c = omega (arith, c .before .before .before .before .before .before .before .before .before .before .before .loop .inv .0 .lengths, c .before .before .before .before .before .before .before .before .before .before .before .before .before .before .before .before .before .before .before .pre .0 .lengths)
+
+add-framed : tie.Need-add-framed Inv-loop μ-loop
+add-framed c =
+    let a = c .before .before .before .before .before .before .before .before .before .before .before .before .before .before .before .before .before .before .before .args in
+    let p = c .before .before .before .before .before .before .before .before .before .before .before .before .before .before .before .before .before .before .before .pre .0 in
+    record { fits = omega (arith, p .held, p .piece, c .before .before .before .before .before .before .before .before .before .before .before .loop .inv .0 .counted, c .before .before .before .before .before .before .before .before .before .next-start .ensures .from, length-append (a .held .now) (a .piece .now), good-inside _ _ _ _ _ _ _ _ _ _ _ _ _ _ (at-start _ _ _ _ _ _ _ _ _ _ _ _ _ _ (c .before .before .before .before .before .before .before .before .before .before .before .loop .inv .0) (c .before .before .before .before .before .before .before .before .before .before .loop-test .taken) _ (c .before .before .before .before .before .before .before .before .before .next-start .ensures)) (c .before .before .before .before .before .before .before .before .before .before .loop-test .taken) _ (sym (c .before .n .given .1) ∙ c .before .before .before .rtcm-in .ensures)) }
+
+add-k : tie.Need-add-k Inv-loop μ-loop
+add-k c =
+    let a = c .before .before .before .before .before .before .before .before .before .before .before .before .before .before .before .before .before .before .before .args in
+    let p = c .before .before .before .before .before .before .before .before .before .before .before .before .before .before .before .before .before .before .before .pre .0 in
+    let l = c .before .before .before .before .before .before .before .before .before .before .before .loop .inv .0 in
+    record { fits = omega (arith, p .held, p .piece, l .each, l .counted, l .inside, length-append (a .held .now) (a .piece .now)) }
+
+add-i-2 : tie.Need-add-i-2 Inv-loop μ-loop
+add-i-2 c =
+    let a = c .before .before .before .before .before .before .before .before .before .before .before .before .before .before .before .before .before .before .before .args in
+    let p = c .before .before .before .before .before .before .before .before .before .before .before .before .before .before .before .before .before .before .before .pre .0 in
+    record { fits = omega (arith, p .held, p .piece, length-append (a .held .now) (a .piece .now), good-inside _ _ _ _ _ _ _ _ _ _ _ _ _ _ (at-start _ _ _ _ _ _ _ _ _ _ _ _ _ _ (c .before .before .before .before .before .before .before .before .before .before .before .loop .inv .0) (c .before .before .before .before .before .before .before .before .before .before .loop-test .taken) _ (c .before .before .before .before .before .before .before .before .before .next-start .ensures)) (c .before .before .before .before .before .before .before .before .before .before .loop-test .taken) _ (sym (c .before .n .given .1) ∙ c .before .before .before .rtcm-in .ensures)) }
+
+loop-less-2 : tie.Need-loop-less-2 Inv-loop μ-loop
+loop-less-2 c = omega (arith, c .before .before .before .before .before .before .before .before .before .next-start .ensures .from, good-some _ _ _ _ _ _ _ _ _ _ _ _ _ _ (at-start _ _ _ _ _ _ _ _ _ _ _ _ _ _ (c .before .before .before .before .before .before .before .before .before .before .before .loop .inv .0) (c .before .before .before .before .before .before .before .before .before .before .loop-test .taken) _ (c .before .before .before .before .before .before .before .before .before .next-start .ensures)) (c .before .before .before .before .before .before .before .before .before .before .loop-test .taken) _ (sym (c .before .n .given .1) ∙ c .before .before .before .rtcm-in .ensures))
+
+loop-again-2 : tie.Need-loop-again-2 Inv-loop μ-loop
+loop-again-2 c =
+    let w = c .before .before .before .before .before .before .cover .ensures in
+    (lists _ _ _ _ _ _ _ _ _ _ _ _ _ _ (at-start _ _ _ _ _ _ _ _ _ _ _ _ _ _ (c .before .before .before .before .before .before .before .before .before .before .before .loop .inv .0) (c .before .before .before .before .before .before .before .before .before .before .loop-test .taken) _ (c .before .before .before .before .before .before .before .before .before .next-start .ensures)) (c .before .before .before .before .before .before .before .before .before .before .loop-test .taken) _ (sym (c .before .n .given .1) ∙ c .before .before .before .rtcm-in .ensures), omega (arith, w .0), w .2, w .3)
+
+ended-requires-3 : tie.Need-ended-requires-3 Inv-loop μ-loop
+ended-requires-3 c κs = search needs
+
+same-length-5 : tie.Need-same-length-5 Inv-loop μ-loop
+same-length-5 c = c .before .before .loop .inv .0 .starts
+
+same-length-6 : tie.Need-same-length-6 Inv-loop μ-loop
+same-length-6 c = c .before .before .loop .inv .0 .lengths
+
+returns-3 : tie.Need-returns-3 Inv-loop μ-loop
+returns-3 c = tells (c .ended3 .ensures) (ends-full _ _ _ _ _ _ _ _ _ _ _ _ _ _ (c .before .before .loop .inv .0) (omega arith))
+
+pub list-rtcm-spec : {M : Type 1} → statement M
+list-rtcm-spec =
+    tie.close
+    (tie.spec
+    Inv-loop
+    μ-loop
+    add-all
+    slice-aggregate-open
+    open-requires
+    loop-holds
+    next-start-requires
+    ended-requires
+    same-length
+    same-length-2
+    returns
+    slice-aggregate-cover
+    cover-requires
+    slice-aggregate-rtcm-in
+    rtcm-in-requires
+    enum-told
+    ended-requires-2
+    same-length-3
+    same-length-4
+    returns-2
+    enum-told-2
+    add-i
+    loop-less
+    loop-again
+    enum-known-n
+    cast-starts
+    mul-starts
+    slice-write-starts
+    cast-lengths
+    mul-lengths
+    slice-write-lengths
+    add-framed
+    add-k
+    add-i-2
+    loop-less-2
+    loop-again-2
+    ended-requires-3
+    same-length-5
+    same-length-6
+    returns-3)
