@@ -21,6 +21,7 @@ pub mod CandidateLaws
 pub mod TurnLaws
 pub mod FindLaws
 pub mod ManyLaws
+pub mod PassLaws
 pub mod MovedLaws
 pub mod WalkLaws
 pub mod ProgressLaws

@@ -9,9 +9,11 @@ ghost use lib.ListN.{length, getD, drop};
 ghost use Rattle.frames.specs.Framing.{decide};
 ghost use Rattle.frames.specs.Feed.{feed};
 ghost use Rattle.frames.specs.Rtcm.{rtcm};
+ghost use Rattle.frames.specs.Frame.{dataLength};
 ghost use Rattle.frames.specs.Ubx.{ubx};
 ghost use Rattle.frames.specs.Modes.{framingOf};
 ghost use Rattle.frames.specs.Steps.{startsIn, candidate, searched, Reached, Tails, Runs, Whole, Ready};
+use crate::frame;
 use crate::scan;
 use crate::scan::Candidate;
 use crate::scan::Searched;
@@ -66,12 +68,68 @@ fn find_rtcm(held: &[u8], piece: &[u8], from: usize, first: usize) -> Searched
                 return Searched::Frame(j, n, scan::most(end, j + n) - h);
             }
             Candidate::NotValid(n) => {
-                end = scan::most(end, j + n);
-                i = j + 1;
+                let taken = scan::most(end, j + n);
+                let on = pass(held, piece, base, stop, j + 1, taken, &sums);
+                end = on.end;
+                i = on.place;
             }
         }
     }
     Searched::More(i)
+}
+
+// Where a search has come to, and the place up to which bytes are taken.
+struct Passed {
+    place: usize,
+    end: usize,
+}
+
+// The search for RTCM goes on from place `from` over candidates that fail, as far as they begin in the piece and the window
+// decides whatever may begin there.
+fn pass(
+    held: &[u8],
+    piece: &[u8],
+    base: usize,
+    stop: usize,
+    from: usize,
+    first: usize,
+    sums: &[u32],
+) -> Passed
+    requires { ⌜ (Reached (framingOf 0) (now held) (now piece) from (first - length (now held))) × (length (now held) ≤ first) × (length (now held) + length (now piece) < 2 ^ 64) × (base ≤ from) × Tails (now held ++ now piece) (now sums) base stop ⌝ }
+    ensures { λ r. ⌜ (Reached (framingOf 0) (now (held .entry)) (now (piece .entry)) (r .place) (r .end - length (now (held .entry)))) × (length (now (held .entry)) ≤ r .end) × (from ≤ r .place) ⌝ }
+{
+    let h = held.len();
+    let last = stop - scan::least(stop, 1028);
+    let mut i = from;
+    let mut end = first;
+    while i < last {
+        if i < h {
+            return Passed { place: i, end };
+        }
+        let d = scan::next_d3(piece, i - h);
+        let j = h + d;
+        if last <= j {
+            return Passed { place: i, end };
+        }
+        let n = data_length(piece, d);
+        let at = j - base;
+        if sums[at] == sums[at + n + 6] {
+            return Passed { place: i, end };
+        }
+        end = scan::most(end, j + n + 6);
+        i = j + 1;
+    }
+    Passed { place: i, end }
+}
+
+// The length of the data that the candidate at place i of the piece claims.
+fn data_length(piece: &[u8], i: usize) -> usize
+    requires { ⌜ i + 3 ≤ length (now piece) ⌝ }
+    ensures { λ r. ⌜ (r ≡ dataLength (drop i (now (piece .entry)))) × (r < 1024) ⌝ }
+{
+    let a = frame::wide(piece[i + 1]);
+    let b = frame::wide(piece[i + 2]);
+    ((a * 0x100 + b) % 1024) as usize
 }
 
 // The same for both kinds.

@@ -157,7 +157,7 @@ fn next_in(part: &[u8], from: usize, mode: u32) -> usize
 
 // The place of the first D3 of a part from a place on, or its end. Past the first byte, which is one where frame follows
 // frame, it goes by sixteen bytes at a time.
-fn next_d3(part: &[u8], from: usize) -> usize
+pub(crate) fn next_d3(part: &[u8], from: usize) -> usize
     requires { ⌜ from ≤ length (now part) ⌝ }
     ensures { λ r. ⌜ Start startsRtcm (now (part .entry)) from r ⌝ }
 {

@@ -70,8 +70,8 @@ add-most c = record { fits = omega (arith, good-fits _ _ _ _ _ _ _ _ (c .before 
 most-requires : tie.Need-most-requires Inv-loop μ-loop
 most-requires c κs = search needs
 
-sub-t28 : tie.Need-sub-t28 Inv-loop μ-loop
-sub-t28 c = omega (arith, c .before .before .before .before .before .before .before .before .before .before .before .before .loop .inv .0 .behind, c .most .ensures)
+sub-t30 : tie.Need-sub-t30 Inv-loop μ-loop
+sub-t30 c = omega (arith, c .before .before .before .before .before .before .before .before .before .before .before .before .loop .inv .0 .behind, c .most .ensures)
 
 returns-3 : tie.Need-returns-3 Inv-loop μ-loop
 returns-3 c =
@@ -82,22 +82,32 @@ returns-3 c =
 enum-known-n-2 : tie.Need-enum-known-n-2 Inv-loop μ-loop
 enum-known-n-2 c = search needs
 
+add-pass : tie.Need-add-pass Inv-loop μ-loop
+add-pass c = record { fits = omega arith }
+
 add-most-2 : tie.Need-add-most-2 Inv-loop μ-loop
 add-most-2 c = record { fits = omega (arith, bad-fits _ _ _ _ _ _ _ _ (c .before .before .before .before .before .before .before .before .before .before .before .loop .inv .0) _ (c .before .before .before .before .before .before .before .before .before .next-start .ensures) _ (sym (c .before .n2 .given .1) ∙ c .before .before .before .rtcm-in .ensures)) }
 
 most-requires-2 : tie.Need-most-requires-2 Inv-loop μ-loop
 most-requires-2 c κs = search needs
 
-add-i : tie.Need-add-i Inv-loop μ-loop
-add-i c = record { fits = omega arith }
+slice-aggregate-pass : tie.Need-slice-aggregate-pass Inv-loop μ-loop
+slice-aggregate-pass c = search needs
+
+pass-requires : tie.Need-pass-requires Inv-loop μ-loop
+pass-requires c κs =
+    let w = c .before .before .before .before .before .before .before .before .cover .ensures in
+    let g = subst (Came _ _ _ _ _ _ _) (sym (c .before .most2 .ensures)) (passed _ _ _ _ _ _ _ _ (c .before .before .before .before .before .before .before .before .before .before .before .before .before .loop .inv .0) _ (c .before .before .before .before .before .before .before .before .before .before .before .next-start .ensures) _ (sym (c .before .before .before .n2 .given .1) ∙ c .before .before .before .before .before .rtcm-in .ensures)) in
+    (g .reached, g .behind, c .before .before .before .before .before .before .before .before .before .before .before .before .before .before .before .before .before .before .before .pre .2, less-again _ _ (w .0), w .2)
 
 loop-less : tie.Need-loop-less Inv-loop μ-loop
-loop-less c = nearer _ _ _ (c .before .before .before .before .before .before .before .before .before .before .before .loop-test .taken) (c .before .before .before .before .before .before .before .before .before .before .next-start .ensures .from)
+loop-less c = omega (arith, c .pass .ensures .2, c .before .before .before .before .before .before .before .before .before .before .before .before .next-start .ensures .from, c .before .before .before .before .before .before .before .before .before .before .before .before .before .loop-test .taken)
 
 loop-again : tie.Need-loop-again Inv-loop μ-loop
 loop-again c =
-    let w = c .before .before .before .before .before .before .before .cover .ensures in
-    (subst (Came _ _ _ _ _ _ _) (sym (c .most2 .ensures)) (passed _ _ _ _ _ _ _ _ (c .before .before .before .before .before .before .before .before .before .before .before .before .loop .inv .0) _ (c .before .before .before .before .before .before .before .before .before .before .next-start .ensures) _ (sym (c .before .before .n2 .given .1) ∙ c .before .before .before .before .rtcm-in .ensures)), less-again _ _ (w .0), w .2, w .3)
+    let w = c .before .before .before .before .before .before .before .before .before .cover .ensures in
+    let p = c .pass .ensures in
+    (record { behind = p .1; reached = p .0 }, omega (arith, w .0, p .2), w .2, w .3)
 
 returns-4 : tie.Need-returns-4 Inv-loop μ-loop
 returns-4 c = all-skipped _ _ _ _ _ _ _ _ (c .before .loop .inv .0) (omega arith)
@@ -123,12 +133,14 @@ find-rtcm-spec =
     enum-known-n
     add-most
     most-requires
-    sub-t28
+    sub-t30
     returns-3
     enum-known-n-2
     add-most-2
     most-requires-2
-    add-i
+    add-pass
+    slice-aggregate-pass
+    pass-requires
     loop-less
     loop-again
     returns-4)
