@@ -1,8 +1,9 @@
 //! Makes a crate out of the files of rtcm-rs where they lie, in the folder that RTCM_RS_SOURCE names.
 //!
-//! The files are built unchanged, each as the module that it is in rtcm-rs. Of two files only a part can be built, since
+//! The files are built unchanged, each as the module that it is in rtcm-rs. Of four files only a part can be built, since
 //! the rest needs files that were not supplied: of lib.rs everything from `next_msg_frame` on, of msg/mod.rs the lines
-//! that are named below. Those parts are written to OUT_DIR, never into this folder.
+//! that are named below, of df/mod.rs the macro `df!`, and of df/dfs.rs the two lengths of message 1001. Those parts are
+//! written to OUT_DIR, never into this folder.
 use std::path::{Path, PathBuf};
 use std::{env, fs};
 
@@ -19,12 +20,20 @@ const LINES_OF_MSG: [&str; 2] = ["pub use msm_mappings::", "pub const SAT_CAP_10
 const FEATURES: &str = r#"cfg(feature, values(any()))"#;
 const MESSAGES: [&str; 2] = ["msg1059", "msg1230"];
 
+/// The lengths of message 1001: pseudorange, and phase range less pseudorange.
+const LENGTHS: [&str; 2] = ["df011", "df012_18_42_48"];
+
 fn main() {
     let source = source_folder();
     let out = PathBuf::from(env::var_os("OUT_DIR").expect("cargo sets OUT_DIR"));
     let lib = part_of_lib(&text(&source.join("lib.rs")));
     let msg = lines_of_msg(&text(&source.join("msg/mod.rs")));
+    let lengths = lengths(
+        &text(&source.join("df/mod.rs")),
+        &text(&source.join("df/dfs.rs")),
+    );
     fs::write(out.join("scan.rs"), lib).expect("OUT_DIR can be written");
+    fs::write(out.join("lengths.rs"), lengths).expect("OUT_DIR can be written");
     fs::write(out.join("rtcm.rs"), tree(&source, &msg)).expect("OUT_DIR can be written");
 
     println!("cargo::rerun-if-env-changed=RTCM_RS_SOURCE");
@@ -88,6 +97,20 @@ fn lines_of_msg(msg: &str) -> String {
     part.join("\n") + "\n"
 }
 
+/// The macro that makes a field's module, and what it is given for the two lengths, as they stand in the source.
+fn lengths(macros: &str, fields: &str) -> String {
+    let part = |text: &str, start: &str, end: &str| {
+        let from = text.find(start).unwrap_or_else(|| panic!("no {start:?}"));
+        let to = text[from..].find(end).expect("its end") + from + end.len();
+        text[from..to].to_string() + "\n"
+    };
+    let mut module = part(macros, "macro_rules! df {", "\n}\n");
+    for id in LENGTHS {
+        module += &part(fields, &format!("df!(\n    id: {id},"), "\n);\n");
+    }
+    module
+}
+
 /// The crate's modules, each over its own file. Warnings about the source are not this program's.
 fn tree(source: &Path, lines_of_msg: &str) -> String {
     let module = |file: &str| {
@@ -116,6 +139,8 @@ fn tree(source: &Path, lines_of_msg: &str) -> String {
     tree += &module("msg/message.rs");
     tree += lines_of_msg;
     tree += "pub use crate::raw_message::{msg1059, msg1230};\n}\n";
+    tree += "#[allow(warnings)] mod lengths {\n";
+    tree += "include!(concat!(env!(\"OUT_DIR\"), \"/lengths.rs\"));\n}\n";
     tree += "#[allow(warnings)] mod scan_of_lib {\n";
     tree += "use crate::{message_frame::MessageFrame, rtcm_error};\n";
     tree += "include!(concat!(env!(\"OUT_DIR\"), \"/scan.rs\"));\n}\n";

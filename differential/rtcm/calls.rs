@@ -5,6 +5,7 @@ use crate::df::bit_value::*;
 use crate::df::dfs::df_msg1059_biases::{self, Msg1059CodeBias};
 use crate::df::dfs::df_msg1230_biases::{self, Msg1230CodePhaseBias};
 use crate::df::parser::Parser;
+use crate::lengths;
 use crate::message_frame::MessageFrame;
 use crate::msg::message::{Message, MessageBuilder};
 use crate::msg::{msm_mappings, GloSigId, GpsSigId};
@@ -255,6 +256,18 @@ pub fn count_1059(data: &[u8], start: usize) -> usize {
 #[inline(never)]
 pub fn count_1230(data: &[u8], start: usize) -> usize {
     df_msg1230_biases::decode(&mut Parser::new(data, start)).map_or(0, |list| list.len())
+}
+
+/// The pseudorange of message 1001 in the first 24 bits of the data; none where it is absent.
+#[inline(never)]
+pub fn pseudorange(data: &[u8]) -> Result<Option<f64>, Refused> {
+    lengths::df011::decode(&mut Parser::new(data, 0)).map_err(refused)
+}
+
+/// The phase range less the pseudorange in the first 20 bits of the data; none where it is absent.
+#[inline(never)]
+pub fn phase(data: &[u8]) -> Result<Option<f64>, Refused> {
+    lengths::df012_18_42_48::decode(&mut Parser::new(data, 0)).map_err(refused)
 }
 
 macro_rules! over_systems {

@@ -64,6 +64,8 @@ mod raw {
         ) -> u32;
         pub fn pv_1059_metres(raw: i16) -> f32;
         pub fn pv_1230_metres(raw: i16) -> f32;
+        pub fn pv_1001_pseudorange(raw: u32, extra: *mut u64, extra_len: usize) -> u32;
+        pub fn pv_1001_phase(raw: i32, extra: *mut u64, extra_len: usize) -> u32;
         pub fn pv_signal_of(system: u32, number: u32, extra: *mut u64, extra_len: usize) -> u32;
         pub fn pv_number_of(
             system: u32,
@@ -323,6 +325,14 @@ pub fn metres(block: Block, raw: i16) -> f32 {
         Block::Msg1059 => unsafe { raw::pv_1059_metres(raw) },
         Block::Msg1230 => unsafe { raw::pv_1230_metres(raw) },
     }
+}
+
+pub fn pseudorange(raw: u32) -> Told {
+    told!(pv_1001_pseudorange(raw))
+}
+
+pub fn phase(raw: i32) -> Told {
+    told!(pv_1001_phase(raw))
 }
 
 pub fn signal_of(system: u32, number: u32) -> Told {
