@@ -85,7 +85,7 @@ static void *on_painted_stack(void *unused)
     if (asked == i++)   \
         answered = call;
     CALLS(ONE)
-    while (stack[clean] == PAINT && clean < below)
+    while (clean < below && stack[clean] == PAINT)
         clean++;
     used = below - clean;
     return unused;
