@@ -11,7 +11,9 @@ skip() { echo "SKIPPED rtklib: $1"; exit 0; }
 [ ! -f "$archive" ] || { echo "$archive"; exit 0; }
 command -v apt-get >/dev/null || skip "apt-get is not here"
 mkdir -p "$here/lists/partial" "$source"
-echo "deb-src http://deb.debian.org/debian bookworm main" >"$here/sources.list"
+# The sources lie where the machine's own packages come from.
+apt-get indextargets --format 'deb-src $(REPO_URI) $(CODENAME) $(COMPONENT)' 'Created-By: Packages' 2>/dev/null | sort -u >"$here/sources.list"
+[ -s "$here/sources.list" ] || skip "apt-get knows no place of packages"
 apt() { timeout 120 apt-get -q -o Dir::Etc::sourcelist="$here/sources.list" -o Dir::Etc::sourceparts=/dev/null -o Dir::State::lists="$here/lists" "$@"; }
 cd "$here" || skip "build/rtklib cannot be made"
 apt update >"$here/log" 2>&1 || skip "Debian's list of sources cannot be had"
