@@ -19,7 +19,7 @@ use Rattle.bits.proofs.ReadLaws.{reads-value, reads-short, read-tells}
 use Rattle.formats.specs.Format.{readEach}
 use Rattle.messages.specs.StepsRead.{many, Lists1059, lists1059, put1059, counts, Stored}
 use Rattle.messages.specs.Records.{Rec1059, Counted, counted, rec1059}
-use Rattle.messages.specs.StepsRead1059.{satelliteAt, biasAt}
+use Rattle.messages.specs.StepsRead1059.{satelliteAt, biasAt, readSatellites}
 use Rattle.messages.specs.Read1059.{readBlock1059, filled1059, read1059}
 use Rattle.messages.specs.Layout1059.{bias1059, satellite1059, ofBias, ofSat, flat1059}
 use Rattle.messages.proofs.AcceptLaws.{read-as}
@@ -162,11 +162,11 @@ few-more s p few i {j} {q} e =
 
 -- ---- the block, by its satellite count
 
-pub block-cut : (s : List ℕ) (p : ℕ) {carried : List ℕ} → readUnsigned s p 6 ≡ Refused 1 carried → readBlock1059 s p ≡ Refused 1 carried
+block-cut : (s : List ℕ) (p : ℕ) {carried : List ℕ} → readUnsigned s p 6 ≡ Refused 1 carried → readBlock1059 s p ≡ Refused 1 carried
 unfolding readBlock1059
 block-cut s p e = rw e
 
-pub block-read : (s : List ℕ) (p : ℕ) {n q : ℕ} → readUnsigned s p 6 ≡ Accepted (reading n q) → readBlock1059 s p ≡ many (satelliteAt s) n q
+block-read : (s : List ℕ) (p : ℕ) {n q : ℕ} → readUnsigned s p 6 ≡ Accepted (reading n q) → readBlock1059 s p ≡ many (satelliteAt s) n q
 unfolding readBlock1059 satelliteAt
 block-read s p {n} {q} e = rw e (behind-count flat1059 n (readEach satellite1059 n s q) ∙ sym (many-same satellite1059 ofSat s n q))
 
@@ -189,13 +189,24 @@ module _ (s : List ℕ) (p : ℕ) (sats gs : List ℕ) (zs : List ℤ) where
     unfolding read1059
     uneven-2 e d = rw (le-ltb _ _ few, eq-eqb _ _ e, ne-eqb _ _ d)
 
-    pub call1059 : length sats ≡ length gs → length sats ≡ length zs → {t : Told (Reading (List Rec1059))} → readBlock1059 s p ≡ t
-        → Call put1059 outcomeOf (lists1059 sats gs zs) (length sats) t (read1059 s p sats gs zs)
-    unfolding read1059
-    call1059 d e b =
-        record {
-          left = λ t. refusing (sats, gs, zs) t (filled1059 sats gs zs);
-          is = rw (le-ltb _ _ few, eq-eqb _ _ d, eq-eqb _ _ e, b);
-          refused = λ m carried. refl;
-          accepted = λ r l. ap (outcomeOf (Accepted (counted (length (r .value)) (r .next)))) (sym (put1059-front (r .value) sats gs zs l (sym d) (sym e)));
-        }
+    module _ (d : length sats ≡ length gs) (e : length sats ≡ length zs) where
+      -- the number of satellites is cut short
+      pub count-cut : {answer : Told Counted} {carried : List ℕ} → readUnsigned s p 6 ≡ Refused 1 carried → answer ≡ Refused 1 carried → outcome answer (sats, gs, zs) ≡ read1059 s p sats gs zs
+      unfolding read1059
+      count-cut k a = rw (le-ltb _ _ few, eq-eqb _ _ d, eq-eqb _ _ e, block-cut s p k, a)
+
+      -- it is there, and its satellites lie behind it
+      pub count-read : {n q : ℕ} → readUnsigned s p 6 ≡ Accepted (reading n q) → readSatellites s n q sats gs zs ≡ read1059 s p sats gs zs
+      unfolding read1059 readSatellites
+      count-read k = rw (le-ltb _ _ few, eq-eqb _ _ d, eq-eqb _ _ e, block-read s p k)
+
+pub call1059 : (s : List ℕ) (n p : ℕ) (sats gs : List ℕ) (zs : List ℤ) → length sats ≡ length gs → length sats ≡ length zs
+    → Call put1059 outcomeOf (lists1059 sats gs zs) (length sats) (many (satelliteAt s) n p) (readSatellites s n p sats gs zs)
+unfolding readSatellites
+call1059 s n p sats gs zs d e =
+    record {
+      left = λ t. refusing (sats, gs, zs) t (filled1059 sats gs zs);
+      is = refl;
+      refused = λ m carried. refl;
+      accepted = λ r l. ap (outcomeOf (Accepted (counted (length (r .value)) (r .next)))) (sym (put1059-front (r .value) sats gs zs l (sym d) (sym e)));
+    }

@@ -18,7 +18,7 @@ use Rattle.formats.specs.Format.{twos, readEach}
 use Rattle.messages.specs.Records.{Rec1230, Counted, counted, rec1230, records1230}
 use Rattle.messages.specs.Reader.{asRecords}
 use Rattle.messages.specs.Layout1230.{maskSignals, masked, flat1230}
-use Rattle.messages.specs.StepsRead1230.{biasesAt}
+use Rattle.messages.specs.StepsRead1230.{biasesAt, readMasked}
 use Rattle.messages.specs.Read1230.{readBlock1230, filled1230, read1230}
 use Rattle.messages.specs.StepsRead.{Lists1230, lists1230, put1230, counts, Suffices, Stored, before}
 use Rattle.messages.specs.Writer.{keep}
@@ -163,11 +163,11 @@ module _ (s l : List ℕ) (k m p : ℕ) (is : l ≡ maskSignals) (h : k < 4) (bi
 
 -- ---- the block, by its mask
 
-pub block-cut : (s : List ℕ) (p : ℕ) {carried : List ℕ} → readUnsigned s p 4 ≡ Refused 1 carried → readBlock1230 s p ≡ Refused 1 carried
+block-cut : (s : List ℕ) (p : ℕ) {carried : List ℕ} → readUnsigned s p 4 ≡ Refused 1 carried → readBlock1230 s p ≡ Refused 1 carried
 unfolding readBlock1230
 block-cut s p e = rw e
 
-pub block-read : (s : List ℕ) (p : ℕ) {m q : ℕ} → readUnsigned s p 4 ≡ Accepted (reading m q) → readBlock1230 s p ≡ biasesAt s (masked maskSignals m) q
+block-read : (s : List ℕ) (p : ℕ) {m q : ℕ} → readUnsigned s p 4 ≡ Accepted (reading m q) → readBlock1230 s p ≡ biasesAt s (masked maskSignals m) q
 unfolding readBlock1230 biasesAt
 block-read s p {m} {q} e = rw e (go (readEach (twos 16) (length (masked maskSignals m)) s q))
   where
@@ -190,13 +190,24 @@ module _ (s : List ℕ) (p : ℕ) (gs : List ℕ) (zs : List ℤ) where
     unfolding read1230
     uneven d = rw (le-ltb _ _ few, ne-eqb _ _ d)
 
-    pub call1230 : length gs ≡ length zs → {t : Told (Reading (List Rec1230))} → readBlock1230 s p ≡ t
-        → Call put1230 outcomeOf (lists1230 gs zs) (length gs) t (read1230 s p gs zs)
-    unfolding read1230
-    call1230 e b =
-        record {
-          left = λ t. refusing (gs, zs) t (filled1230 gs zs);
-          is = rw (le-ltb _ _ few, eq-eqb _ _ e, b);
-          refused = λ m carried. refl;
-          accepted = λ r l. ap (outcomeOf (Accepted (counted (length (r .value)) (r .next)))) (sym (put1230-front (r .value) gs zs l (sym e)));
-        }
+    module _ (e : length gs ≡ length zs) where
+      -- the mask is cut short
+      pub mask-cut : {answer : Told Counted} {carried : List ℕ} → readUnsigned s p 4 ≡ Refused 1 carried → answer ≡ Refused 1 carried → outcome answer (gs, zs) ≡ read1230 s p gs zs
+      unfolding read1230
+      mask-cut k a = rw (le-ltb _ _ few, eq-eqb _ _ e, block-cut s p k, a)
+
+      -- it is there, and its biases lie behind it
+      pub mask-read : {m q : ℕ} → readUnsigned s p 4 ≡ Accepted (reading m q) → readMasked s m q gs zs ≡ read1230 s p gs zs
+      unfolding read1230 readMasked
+      mask-read k = rw (le-ltb _ _ few, eq-eqb _ _ e, block-read s p k)
+
+pub call1230 : (s : List ℕ) (m p : ℕ) (gs : List ℕ) (zs : List ℤ) → length gs ≡ length zs
+    → Call put1230 outcomeOf (lists1230 gs zs) (length gs) (biasesAt s (masked maskSignals m) p) (readMasked s m p gs zs)
+unfolding readMasked
+call1230 s m p gs zs e =
+    record {
+      left = λ t. refusing (gs, zs) t (filled1230 gs zs);
+      is = refl;
+      refused = λ m carried. refl;
+      accepted = λ r l. ap (outcomeOf (Accepted (counted (length (r .value)) (r .next)))) (sym (put1230-front (r .value) gs zs l (sym e)));
+    }

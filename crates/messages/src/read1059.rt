@@ -5,7 +5,7 @@ ghost use lib.ListN.{length};
 ghost use Rattle.bits.specs.Outcome.{outcome};
 ghost use Rattle.bits.specs.Signed.{twosOf};
 ghost use Rattle.messages.specs.StepsRead.{many, counts, Stored, lists1059, put1059, Ready1059};
-ghost use Rattle.messages.specs.StepsRead1059.{biasAt, satelliteAt};
+ghost use Rattle.messages.specs.StepsRead1059.{biasAt, satelliteAt, readSatellites};
 ghost use Rattle.messages.specs.Read1059.{read1059};
 ghost use Rattle.messages.specs.Answers.{toldRead};
 use crate::answer::BlockRead;
@@ -38,14 +38,29 @@ pub fn read(
     let Unsigned::Value(n, at) = read else {
         return unread(read);
     };
-    let extent = measure(bytes, at, n as usize);
+    read_satellites(bytes, at, n as usize, satellites, signals, biases)
+}
+
+// Reads the n satellites from bit `at` on. It stands alone as read_masked of message 1230 does.
+fn read_satellites(
+    bytes: &[u8],
+    at: usize,
+    n: usize,
+    satellites: &mut [u8],
+    signals: &mut [u8],
+    biases: &mut [i16],
+) -> BlockRead
+    requires { ⌜ (length (now bytes) ≤ 1023) × (n ≤ 63) × (length (now satellites) ≡ length (now signals)) × (length (now satellites) ≡ length (now biases)) ⌝ }
+    ensures { λ r. ⌜ outcome (toldRead r) (now (satellites .exit), now (signals .exit), now (biases .exit)) ≡ readSatellites (now (bytes .entry)) n at (now (satellites .entry)) (now (signals .entry)) (now (biases .entry)) ⌝ }
+{
+    let extent = measure(bytes, at, n);
     let BlockRead::Records { count, end: _ } = extent else {
         return extent;
     };
     if satellites.len() < count {
         return BlockRead::Room(count);
     }
-    store(bytes, at, n as usize, satellites, signals, biases)
+    store(bytes, at, n, satellites, signals, biases)
 }
 
 // ---- the first pass: how many records there are, and where they end

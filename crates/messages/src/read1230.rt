@@ -5,7 +5,7 @@ ghost use Prim.Native.Nat.{ℕ, _*_, _≤_, _<_};
 ghost use lib.ListN.{length};
 ghost use Rattle.bits.specs.Outcome.{outcome};
 ghost use Rattle.messages.specs.Layout1230.{maskSignals, masked};
-ghost use Rattle.messages.specs.StepsRead1230.{biasesAt};
+ghost use Rattle.messages.specs.StepsRead1230.{biasesAt, readMasked};
 ghost use Rattle.messages.specs.Read1230.{read1230};
 ghost use Rattle.messages.specs.Answers.{toldRead};
 ghost use Rattle.messages.specs.StepsRead.{counts, Stored, lists1230, put1230, Ready1230};
@@ -34,6 +34,21 @@ pub fn read(bytes: &[u8], start: usize, signals: &mut [u8], biases: &mut [i16]) 
     let Unsigned::Value(mask, at) = read else {
         return unread(read);
     };
+    read_masked(bytes, at, mask, signals, biases)
+}
+
+// Reads the biases of the mask's signals, from behind the mask on. It stands alone for speed: a call that many refusals
+// come before is one that the compiler holds for rare, and does not copy into its caller.
+fn read_masked(
+    bytes: &[u8],
+    at: usize,
+    mask: u64,
+    signals: &mut [u8],
+    biases: &mut [i16],
+) -> BlockRead
+    requires { ⌜ (length (now bytes) ≤ 1023) × (at ≤ length (now bytes) * 8) × (mask < 16) × (length (now signals) ≡ length (now biases)) ⌝ }
+    ensures { λ r. ⌜ outcome (toldRead r) (now (signals .exit), now (biases .exit)) ≡ readMasked (now (bytes .entry)) mask at (now (signals .entry)) (now (biases .entry)) ⌝ }
+{
     let extent = measure(bytes, at, signals_in(mask));
     let BlockRead::Records { count, end: _ } = extent else {
         return extent;

@@ -1,13 +1,9 @@
--- `messages::read1059::read` meets its contract. The first pass decides the answer, and the second stores what it found. Assumes nothing.
-use mathlib.Core.Path.{refl, sym, ap, _∙_}
+-- `messages::read1059::read` meets its contract. The number of satellites is read, and they lie behind it. Assumes nothing.
+use mathlib.Core.Path.{sym, ap, _∙_}
 use native.Mathlib.Omega.{arith}
 use Rattle.bits.specs.Answers.{toldUnsigned}
-use Rattle.messages.specs.StepsRead.{put1059}
-use Rattle.messages.specs.Answers.{toldRead}
-use Rattle.messages.proofs.ArmLaws.{unsigned-cut, value-within, is-short, read-refused}
-use Rattle.messages.proofs.PassLaws.{counts-short}
-use Rattle.messages.proofs.CallLaws.{has-room, refuses, lacks-room, reads}
-use Rattle.messages.proofs.Read1059Laws.{too-long, uneven, uneven-2, block-cut, block-read, outcomeOf, call1059}
+use Rattle.messages.proofs.ArmLaws.{unsigned-cut, value-within}
+use Rattle.messages.proofs.Read1059Laws.{too-long, uneven, uneven-2, count-cut, count-read}
 use borrow.Author.Needs.{needs}
 use Rattle.messages.proofs.read1059.read.Statement.{statement}
 use Rattle.messages.proofs.read1059.read.Tie as tie
@@ -25,35 +21,17 @@ returns-4 : tie.Need-returns-4
 returns-4 c =
     let r = c .before .before .read-unsigned in
     let k = unsigned-cut _ _ 6 (omega arith) (omega arith) (omega arith) (r .result) (r .ensures) (c .before .match .keys2) (c .unread .ensures) in
-    refuses put1059 outcomeOf (call1059 _ _ _ _ _ (omega arith) (c .before .before .before .before .if2 .left) (c .before .before .before .if3 .left) (block-cut _ _ (k .0))) (is-short (k .1)) (counts-short 0 refl (k .1))
+    count-cut _ _ _ _ _ (omega arith) (c .before .before .before .before .if2 .left) (c .before .before .before .if3 .left) (k .0) (k .1)
 
-measure-requires : tie.Need-measure-requires
-measure-requires c κs =
-    let t = value-within _ _ 6 (sym (c .before .before .before .read-unsigned .ensures) ∙ ap toldUnsigned (c .before .read .given .1)) in
-    (omega arith, omega arith)
+read-satellites-requires : tie.Need-read-satellites-requires
+read-satellites-requires c κs =
+    let t = value-within _ _ 6 (sym (c .before .before .before .before .before .before .read-unsigned .ensures) ∙ ap toldUnsigned (c .before .before .before .before .read .given .1)) in
+    (omega arith, omega arith, omega arith, omega arith)
 
 returns-5 : tie.Need-returns-5
 returns-5 c =
-    let b = block-read _ _ (sym (c .before .before .before .before .before .read-unsigned .ensures) ∙ ap toldUnsigned (c .before .before .before .read .given .1)) in
-    let m = c .before .measure in
-    refuses put1059 outcomeOf (call1059 _ _ _ _ _ (omega arith) (c .before .before .before .before .before .before .before .if2 .left) (c .before .before .before .before .before .before .if3 .left) b) (read-refused (m .result) (c .match2 .keys2)) (m .ensures)
-
-returns-6 : tie.Need-returns-6
-returns-6 c =
-    let b = block-read _ _ (sym (c .before .before .before .before .before .before .before .before .read-unsigned .ensures) ∙ ap toldUnsigned (c .before .before .before .before .before .before .read .given .1)) in
-    let e = ap toldRead (sym (c .before .before .extent .given .1)) ∙ c .before .before .before .before .measure .ensures in
-    lacks-room put1059 outcomeOf (call1059 _ _ _ _ _ (omega arith) (c .before .before .before .before .before .before .before .before .before .before .if2 .left) (c .before .before .before .before .before .before .before .before .before .if3 .left) b) e (omega arith)
-
-store-requires : tie.Need-store-requires
-store-requires c κs =
-    let e = ap toldRead (sym (c .before .before .before .before .before .extent .given .1)) ∙ c .before .before .before .before .before .before .before .measure .ensures in
-    record { few = omega arith; suffices = has-room _ _ e (omega arith); signals = omega arith; biases = omega arith }
-
-returns-7 : tie.Need-returns-7
-returns-7 c =
-    let b = block-read _ _ (sym (c .before .before .before .before .before .before .before .before .before .before .before .before .before .before .before .before .before .read-unsigned .ensures) ∙ ap toldUnsigned (c .before .before .before .before .before .before .before .before .before .before .before .before .before .before .before .read .given .1)) in
-    let e = ap toldRead (sym (c .before .before .before .before .before .before .before .before .before .before .before .extent .given .1)) ∙ c .before .before .before .before .before .before .before .before .before .before .before .before .before .measure .ensures in
-    reads put1059 outcomeOf (call1059 _ _ _ _ _ (omega arith) (c .before .before .before .before .before .before .before .before .before .before .before .before .before .before .before .before .before .before .before .if2 .left) (c .before .before .before .before .before .before .before .before .before .before .before .before .before .before .before .before .before .before .if3 .left) b) (has-room _ _ e (omega arith)) (c .before .before .before .before .before .store .ensures)
+    c .before .before .before .before .before .read-satellites .ensures
+    ∙ count-read _ _ _ _ _ (omega arith) (c .before .before .before .before .before .before .before .before .before .before .before .before .before .before .if2 .left) (c .before .before .before .before .before .before .before .before .before .before .before .before .before .if3 .left) (sym (c .before .before .before .before .before .before .before .before .before .before .before .before .read-unsigned .ensures) ∙ ap toldUnsigned (c .before .before .before .before .before .before .before .before .before .before .read .given .1))
 
 pub read-spec : {M : Type 1} → statement M
 read-spec =
@@ -66,12 +44,8 @@ read-spec =
     (λ c. search needs)
     (λ c κs. search needs)
     returns-4
-    measure-requires
-    (λ c. search needs)
-    returns-5
-    returns-6
-    store-requires
+    read-satellites-requires
     (λ c. search needs)
     (λ c. search needs)
     (λ c. search needs)
-    returns-7)
+    returns-5)
