@@ -1,16 +1,16 @@
 -- A byte of a recording is in a frame, skipped or held, as was decided at its place, in a scan by any framing and so in every mode. Assumes nothing.
-use mathlib.Core.Path.{_≡_, refl, sym, ap, _∙_, subst}
-use mathlib.Core.Bool.{Bool, true, false, cond}
+use mathlib.Core.Path.{_≡_, refl}
+use mathlib.Core.Bool.{cond}
 use mathlib.Core.List.{List, [], _∷_}
 use Prim.Native.Nat.{ℕ, zero, suc, _+_, _-_, _≤_, _<_}
 use native.Mathlib.Nat.{not-suc-le-zero}
 use native.Mathlib.Omega.{arith}
 use native.Mathlib.Decide.{ℕ-discrete, decLt}
-use lib.ListN.{length, take, drop}
+use lib.ListN.{length, take}
 use lib.Seq.{length-take-le}
 use lib.Dec.{ltb, eqb}
 use borrow.Author.Tests.{lt-ltb, le-ltb, eq-eqb, ne-eqb}
-use Rattle.frames.specs.Scan.{Decision, Skip, Take, Wait, Item, Skipped, Framed, step, scanPast, scan}
+use Rattle.frames.specs.Scan.{Decision, Skip, Take, Wait, step, scanPast, scan}
 use Rattle.frames.specs.Became.{Became, In, Dropped, Waiting, becameIn, Decided}
 use Rattle.frames.specs.Framing.{decide}
 use Rattle.frames.specs.Modes.{framingOf}

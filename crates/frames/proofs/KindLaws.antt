@@ -1,15 +1,15 @@
 -- A frame that a call hands out is of the kind that its first byte tells, in every mode. Assumes nothing.
-use mathlib.Core.Path.{_≡_, refl, sym, ap, _∙_, subst}
+use mathlib.Core.Path.{_≡_, refl, ap, _∙_, subst}
 use mathlib.Core.Bool.{Bool, true, false, cond}
-use mathlib.Core.List.{List, [], _∷_, _++_}
+use mathlib.Core.List.{List, _∷_}
 use Prim.Native.Nat.{ℕ, zero, suc}
 use native.Mathlib.Nat.{not-suc-le-zero}
 use native.Mathlib.Omega.{arith}
-use lib.ListN.{length, getD, take, drop}
+use lib.ListN.{length, getD, take}
 use lib.Dec.{leb}
 use borrow.Author.Tests.{ne-eqb}
 use Rattle.bits.specs.Onto.{onto}
-use Rattle.frames.specs.Scan.{Decision, Skip, Take, Wait, Item, Skipped}
+use Rattle.frames.specs.Scan.{Take, Wait, Item, Skipped}
 use Rattle.frames.specs.Framing.{Framing, decide}
 use Rattle.frames.specs.Rtcm.{Why, Kind, Rtcm, Ubx}
 use Rattle.frames.specs.Modes.{framingOf}

@@ -1,14 +1,14 @@
--- For each public function of one frame and of the scan: two answers that its statement allows are equal. Assumes nothing.
+-- For each public function of one frame, of the scan and of the listing: two answers that its statement allows are equal. Assumes nothing.
 use mathlib.Core.Path.{_≡_, refl, sym, ap, _∙_}
-use mathlib.Core.List.{List, _++_}
+use mathlib.Core.List.{List}
 use mathlib.Core.Option.{Option, none, some}
 use Prim.Native.Nat.{ℕ}
 use Rattle.bits.specs.Outcome.{outcome}
 use Rattle.bits.specs.Part.{Lent, lent, within}
 use Rattle.frames.specs.Frame.{numberOf, check, framePart, dataPart, insidePart, writeFrame}
 use Rattle.frames.specs.Rtcm.{rtcm}
-use Rattle.frames.specs.Modes.{framingOf}
 use Rattle.frames.specs.Walk.{nextFrom}
+use Rattle.frames.specs.Listing.{listOf}
 use Rattle.frames.specs.Call.{Scanner, fresh, afresh}
 use Rattle.frames.specs.Answers.{toldNumber, toldChecked, toldFramed, toldNext, known}
 use Rattle.frames.specs.declared.frame.Number.{Number}
@@ -16,6 +16,7 @@ use Rattle.frames.specs.declared.frame.Number.the-variants as N
 use Rattle.frames.specs.declared.frame.Checked.{Checked}
 use Rattle.frames.specs.declared.frame.Framed.{Framed}
 use Rattle.frames.specs.declared.scan.Next.{Next}
+use Rattle.frames.specs.declared.list.Listing.{Listing}
 use Rattle.frames.specs.declared.scanner.Scanner as code
 use Rattle.frames.proofs.ToldLaws.{checked-one-to-one, next-one-to-one, only-framed, only-known}
 
@@ -54,8 +55,10 @@ only-write d out = only-framed (writeFrame d out)
 pub only-next-frame : (s : List ℕ) (from : ℕ) {x y : Next} → toldNext x ≡ nextFrom rtcm s from → toldNext y ≡ nextFrom rtcm s from → x ≡ y
 only-next-frame s from e f = next-one-to-one .same (e ∙ sym f)
 
-pub only-next-across : (h p : List ℕ) (from mode : ℕ) {x y : Next} → toldNext x ≡ nextFrom (framingOf mode) (h ++ p) from → toldNext y ≡ nextFrom (framingOf mode) (h ++ p) from → x ≡ y
-only-next-across h p from mode e f = next-one-to-one .same (e ∙ sym f)
+-- what a listing tells, and both lists
+module _ (mode : ℕ) (h p starts lengths : List ℕ) {x y : Listing} {s t u v : List ℕ} where
+  pub only-frames-across : (x, s, u) ≡ listOf mode h p starts lengths → (y, t, v) ≡ listOf mode h p starts lengths → (x ≡ y) × (s ≡ t) × (u ≡ v)
+  only-frames-across e f = let same = e ∙ sym f in (ap (λ z. z .0) same, ap (λ z. z .1) same, ap (λ z. z .2) same)
 
 pub only-fresh : (mode : ℕ) {x y : code.Scanner} → known x ≡ fresh mode → known y ≡ fresh mode → x ≡ y
 only-fresh mode = only-known (fresh mode)

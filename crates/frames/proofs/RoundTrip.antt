@@ -1,11 +1,11 @@
 -- Framing and checking undo each other. Assumes nothing.
-use mathlib.Core.Path.{_≡_, refl, sym, ap, ap₂, _∙_}
-use mathlib.Core.List.{List, [], _∷_, _++_}
-use Prim.Native.Nat.{ℕ, suc, _+_, _*_, _/_, _%_, _^_, _≤_, _<_}
+use mathlib.Core.Path.{_≡_, refl, sym, ap, _∙_}
+use mathlib.Core.List.{List, _++_}
+use Prim.Native.Nat.{ℕ, _+_, _*_, _%_, _^_, _≤_}
 use native.Mathlib.Nat.{add-zero, add-comm}
 use native.Mathlib.Omega.{arith}
 use lib.ListN.{length, getD, take, drop, length-append, length-drop}
-use lib.Seq.{take-at, drop-at, take-add, drop-cons, take-append-le, length-take-le}
+use lib.Seq.{take-at, drop-at, take-add, take-append-le, length-take-le}
 use Rattle.bits.specs.Told.{Told, Accepted}
 use Rattle.bits.specs.Outcome.{Outcome}
 use Rattle.bits.specs.Field.{field}

@@ -1,6 +1,6 @@
 -- The two sums of UBX of the bytes between two places of a window, by those up to each of the two. Assumes nothing.
 use mathlib.Core.Path.{_≡_, refl, sym, ap, ap₂, _∙_, subst, subst₂}
-use mathlib.Core.List.{List, [], _∷_, _++_}
+use mathlib.Core.List.{List, [], _∷_}
 use Prim.Native.Nat.{ℕ, _+_, _-_, _*_, _/_, _%_, _^_, _≤_, _<_}
 use native.Mathlib.Nat.{mod-lt, mul-le-mul, mul-add, mul-assoc, suc-mul, zero-mul}
 use native.Mathlib.Omega.{arith}

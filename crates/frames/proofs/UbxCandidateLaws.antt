@@ -1,6 +1,6 @@
 -- What the framing of UBX decides at a place, by what the code has in hand there; and that each mode decides by the framing of the start byte. Assumes nothing.
 use mathlib.Core.Path.{_≡_, refl, sym, ap, _∙_}
-use mathlib.Core.Bool.{Bool, true, false, _&&_}
+use mathlib.Core.Bool.{true, false, _&&_}
 use mathlib.Core.List.{List, [], _∷_}
 use Prim.Native.Nat.{ℕ, zero, suc, _+_, _-_, _*_, _≤_, _<_}
 use native.Mathlib.Nat.{not-suc-le-zero, le-of-suc-le-suc}
@@ -10,7 +10,6 @@ use lib.ListN.{length, getD, take, drop, length-drop, List·getD-eq-default}
 use lib.Seq.{getD-drop, drop-drop}
 use lib.Dec.{eqb}
 use borrow.Author.Tests.{le-leb, lt-leb, eq-eqb, ne-eqb, le-ltb, lt-ltb, eqb-true}
-use Rattle.frames.specs.Framing.{Framing}
 use Rattle.frames.specs.Rtcm.{rtcm}
 use Rattle.frames.specs.Ubx.{ubx, payload, sums, sameSums, sentSums, ownSums}
 use Rattle.frames.specs.Either.{either}

@@ -2,10 +2,10 @@
 use mathlib.Core.Path.{_≡_, refl, sym, ap, ap₂, _∙_}
 use mathlib.Core.List.{List, [], _∷_, _++_, append-assoc, append-nil, map}
 use Prim.Native.Nat.{ℕ, zero, suc, _+_, _-_, _≤_, min}
-use native.Mathlib.Nat.{add-zero, add-sub-of-le}
+use native.Mathlib.Nat.{add-zero}
 use native.Mathlib.Omega.{arith}
 use lib.ListN.{length, take, drop, length-append, length-drop}
-use lib.Seq.{take-append-le, take-all, drop-drop, drop-append-le, drop-append-add, append-snoc, length-take-le}
+use lib.Seq.{take-append-le, take-all, drop-drop, append-snoc, length-take-le}
 use Rattle.bits.specs.Told.{Accepted}
 use Rattle.frames.specs.Scan.{Decision, Item, Skipped, Framed, after, scan, framesOf, placed}
 use Rattle.frames.specs.Framing.{Framing, Lawful, decide}
@@ -13,7 +13,7 @@ use Rattle.frames.specs.Feed as fed
 use Rattle.frames.specs.Feed.{Next, Held, Found, skipping, next, Fed, past, feed}
 use Rattle.frames.specs.Walk as walk
 use Rattle.frames.specs.Walk.{Place, placeOf, nextFrom, framesAt, cut, Walked, last, then}
-use Rattle.frames.specs.Steps.{searched, placeFrom}
+use Rattle.frames.specs.Steps.{searched}
 use Rattle.frames.specs.declared.scan.Searched.{Searched}
 use Rattle.frames.specs.declared.scan.Searched.the-variants as variants
 use Rattle.frames.proofs.FramingLaws.{Whole, Decides, decides}
@@ -23,6 +23,11 @@ use Rattle.frames.proofs.FeedLaws.{begins, scan-next}
 use Rattle.frames.proofs.KeptLaws.{KeptNext, kept-next, bytes-alone, rest-is, front-is, back-is}
 
 -- ---- a search finds the next frame
+
+-- what a search found, in bytes whose first stands at place n
+abbrev placeFrom : ℕ → Searched → Place
+placeFrom n (variants.More i) = walk.Held (n + i)
+placeFrom n (variants.Frame i l t) = walk.Frame (n + i) l
 
 module _ {W K : Type 0} (d : List ℕ → Decision W K) where
   -- the next frame of bytes that begin as r says, where the bytes p follow
@@ -53,7 +58,7 @@ module _ {W K : Type 0} (d : List ℕ → Decision W K) where
         h
 
     -- a call finds the frame that the bytes held and the piece give first
-    pub place-fed : (p h : List ℕ) (n : ℕ) → placeFrom n (searched (feed d h p)) ≡ placeOf n (next d (h ++ p))
+    place-fed : (p h : List ℕ) (n : ℕ) → placeFrom n (searched (feed d h p)) ≡ placeOf n (next d (h ++ p))
     place-fed p h =
         along-feed d (λ h p r. (n : ℕ) → placeFrom n (searched r) ≡ placeOf n (next d (h ++ p)))
         (λ h g is e n. sym (ap (λ t. placeOf n (next d t)) (append-nil h) ∙ ap (placeOf n) e))
@@ -76,13 +81,13 @@ module _ {W K : Type 0} (F : Framing W K) (s : List ℕ) (from : ℕ) where
       none-left [] e = refl
       none-left (x ∷ l) e = absurd (omega arith)
 
-  -- before it, what a search of the bytes from there on tells, in whatever two parts they lie
-  pub tells-across : Lawful F → from ≤ length s → (h p : List ℕ) → h ++ p ≡ drop from s → (r : Searched) → r ≡ searched (feed (decide F) h p) → Accepted (placeFrom from r) ≡ nextFrom F s from
+  -- before it, what a search of the bytes from there on tells
+  tells : Lawful F → from ≤ length s → (r : Searched) → r ≡ searched (feed (decide F) [] (drop from s)) → Accepted (placeFrom from r) ≡ nextFrom F s from
   unfolding nextFrom
-  tells-across L l h p q r e =
+  tells L l r e =
       let m : from ≡ min from (length s) = omega arith in
       ap Accepted
-      (ap (placeFrom from) e ∙ place-fed (decide F) (decides F L) p h from ∙ ap (λ t. placeOf from (next (decide F) t)) q ∙ ap (λ n. placeOf n (next (decide F) (drop from s))) m)
+      (ap (placeFrom from) e ∙ place-fed (decide F) (decides F L) (drop from s) [] from ∙ ap (λ n. placeOf n (next (decide F) (drop from s))) m)
 
 -- ---- call after call, the whole-stream scan
 
@@ -238,43 +243,22 @@ module _ {W K : Type 0} (F : Framing W K) (s : List ℕ) where
     pub ends : (from : ℕ) → from ≤ length s → (fs : List Place) × (m : ℕ) × Walked F s from fs m
     ends from l = ends-by (length s) from l (omega arith)
 
--- ---- the bytes in two parts, as the code has them
+-- ---- the bytes from a place on, as the code has them
 
-module _ {W K : Type 0} (F : Framing W K) (L : Lawful F) (h p : List ℕ) (from : ℕ) where
-  pub past-both : length h + length p ≤ from → Accepted (walk.Held (length h + length p)) ≡ nextFrom F (h ++ p) from
-  past-both l = ap (λ n. Accepted (walk.Held n)) (sym (length-append h p)) ∙ past-end F (h ++ p) from (rw length-append l)
+module _ {W K : Type 0} (F : Framing W K) (L : Lawful F) (s : List ℕ) (from : ℕ) (l : from ≤ length s) (r : Searched) (e : r ≡ searched (feed (decide F) [] (take (length s - from) (drop from s)))) where
+  tells-on : Accepted (placeFrom from r) ≡ nextFrom F s from
+  tells-on = tells F s from L l r (e ∙ ap (λ t. searched (feed (decide F) [] t)) (take-all (length s - from) (drop from s) (rw length-drop (omega arith))))
 
-  module _ (r : Searched) where
-    -- the place lies in the second part
-    pub tells-right : length h ≤ from → from ≤ length h + length p
-        → r ≡ searched (feed (decide F) [] (take (length p - (from - length h)) (drop (from - length h) p))) → Accepted (placeFrom from r) ≡ nextFrom F (h ++ p) from
-    tells-right l m e =
-        let q : take (length p - (from - length h)) (drop (from - length h) p) ≡ drop from (h ++ p) =
-        take-all (length p - (from - length h)) (drop (from - length h) p) (rw length-drop (omega arith))
-        ∙ sym (drop-append-add h p (from - length h)) ∙ ap (λ k. drop k (h ++ p)) (add-sub-of-le l) in
-        tells-across F (h ++ p) from L (rw length-append m) [] (take (length p - (from - length h)) (drop (from - length h) p)) q r e
+  module _ (i : ℕ) (q : r ≡ variants.More i) where
+    pub held-on : Accepted (walk.Held (from + i)) ≡ nextFrom F s from
+    held-on = ap (λ x. Accepted (placeFrom from x)) (sym q) ∙ tells-on
 
-    -- or in the first
-    pub tells-left : from ≤ length h → r ≡ searched (feed (decide F) (take (length h - from) (drop from h)) p) → Accepted (placeFrom from r) ≡ nextFrom F (h ++ p) from
-    tells-left l e =
-        let q : take (length h - from) (drop from h) ++ p ≡ drop from (h ++ p) =
-        ap (λ k. k ++ p) (take-all (length h - from) (drop from h) (rw length-drop (omega arith))) ∙ sym (drop-append-le from h p l) in
-        tells-across F (h ++ p) from L (rw length-append (omega arith)) (take (length h - from) (drop from h)) p q r e
+    pub held-reaches : from + i ≤ length s
+    held-reaches = stops F s L from l (from + i) (sym held-on) .fits
 
-    module _ (l : from ≤ length h + length p) (e : Accepted (placeFrom from r) ≡ nextFrom F (h ++ p) from) where
-      within : from ≤ length (h ++ p)
-      within = rw length-append l
+  module _ (i n t : ℕ) (q : r ≡ variants.Frame i n t) where
+    pub frame-on : Accepted (walk.Frame (from + i) n) ≡ nextFrom F s from
+    frame-on = ap (λ x. Accepted (placeFrom from x)) (sym q) ∙ tells-on
 
-      module _ (i : ℕ) (q : r ≡ variants.More i) where
-        pub held-across : Accepted (walk.Held (from + i)) ≡ nextFrom F (h ++ p) from
-        held-across = ap (λ x. Accepted (placeFrom from x)) (sym q) ∙ e
-
-        pub held-reaches : from + i ≤ length h + length p
-        held-reaches = omega (arith, stops F (h ++ p) L from within (from + i) (sym held-across) .fits, length-append h p)
-
-      module _ (i n t : ℕ) (q : r ≡ variants.Frame i n t) where
-        pub frame-across : Accepted (walk.Frame (from + i) n) ≡ nextFrom F (h ++ p) from
-        frame-across = ap (λ x. Accepted (placeFrom from x)) (sym q) ∙ e
-
-        pub frame-reaches : from + i + n ≤ length h + length p
-        frame-reaches = omega (arith, finds F (h ++ p) L from within (from + i) n (sym frame-across) .fits, length-append h p)
+    pub frame-reaches : from + i + n ≤ length s
+    frame-reaches = finds F s L from l (from + i) n (sym frame-on) .fits

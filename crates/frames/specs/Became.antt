@@ -5,7 +5,7 @@ use mathlib.Core.List.{List, [], _∷_}
 use Prim.Native.Nat.{ℕ, _+_, _-_, _≤_, _<_}
 use lib.ListN.{length, drop}
 use lib.Dec.{ltb, eqb}
-use Rattle.frames.specs.Scan.{Decision, Skip, Take, Wait, Item, Skipped, Framed, Scanned}
+use Rattle.frames.specs.Scan.{Decision, Skip, Take, Wait, Item, Skipped, Framed}
 
 -- In: part of the frame of a kind that starts at a place and has so many bytes. Dropped: skipped, for a reason. Waiting: held, from the unfinished candidate at a place on.
 pub data Became (W K : Type 0) : Type 0 where

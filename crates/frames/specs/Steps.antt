@@ -16,8 +16,6 @@ use Rattle.frames.specs.Call as call
 use Rattle.frames.specs.Call.{Scanner, heldFrom, onwards, FedOutcome}
 use Rattle.frames.specs.Rtcm.{Kind, Rtcm, Ubx}
 use Rattle.frames.specs.Ubx as ubx
-use Rattle.frames.specs.Walk as walk
-use Rattle.frames.specs.Walk.{Place}
 use Rattle.frames.specs.declared.scan.Candidate.{Candidate}
 use Rattle.frames.specs.declared.scan.Candidate.the-variants.{Incomplete, NotValid, Good}
 use Rattle.frames.specs.declared.scan.Searched.{Searched}
@@ -59,11 +57,6 @@ candidate F s = candidateBy (decide F s) (F .need s)
 abbrev pub searched : {W K : Type 0} → fed.Fed W K → Searched
 searched (fed.More t is h) = More (length is)
 searched (fed.Frame t is k f h) = Frame (length is) (length f) t
-
--- what a search found, in bytes whose first stands at place n
-abbrev pub placeFrom : ℕ → Searched → Place
-placeFrom n (More i) = walk.Held (n + i)
-placeFrom n (Frame i l t) = walk.Frame (n + i) l
 
 -- i bytes skipped and t bytes taken before
 abbrev pub onward : ℕ → ℕ → Searched → Searched

@@ -1,6 +1,5 @@
 // Closing: at the end of a recording the bytes that are held are scanned once more, and nothing waits.
 ghost use mathlib.Core.Path.{_≡_};
-ghost use mathlib.Core.List.{[]};
 ghost use Rattle.bits.specs.Outcome.{outcome};
 ghost use Rattle.frames.specs.Modes.{framingOf};
 ghost use Rattle.frames.specs.Close.{closedBy, closeOf};

@@ -1,6 +1,6 @@
 // Why a byte of a recording is where it is: in a frame, skipped, or held at the end.
 ghost use mathlib.Core.Path.{_≡_};
-ghost use Prim.Native.Nat.{_≤_, _<_};
+ghost use Prim.Native.Nat.{_<_};
 ghost use lib.ListN.{length, drop};
 ghost use Rattle.bits.specs.Told.{Accepted};
 ghost use Rattle.frames.specs.Scan.{Skip, scan};

@@ -6,7 +6,6 @@ ghost use mathlib.Core.Bool.{true};
 ghost use mathlib.Core.List.{[], _++_};
 ghost use Prim.Native.Nat.{_+_, _*_, _^_, _≤_, _<_, min, max};
 ghost use lib.ListN.{length, getD, take, drop};
-ghost use Rattle.bits.specs.Told.{Accepted};
 ghost use Rattle.bits.specs.Field.{field};
 ghost use Rattle.bits.specs.Crc.{crc};
 ghost use Rattle.frames.specs.Framing.{decide};
@@ -16,7 +15,7 @@ ghost use Rattle.frames.specs.Modes.{framingOf};
 ghost use Rattle.frames.specs.Close.{ending};
 ghost use Rattle.frames.specs.Walk.{nextFrom};
 ghost use Rattle.frames.specs.Answers.{toldNext};
-ghost use Rattle.frames.specs.Steps.{startsRtcm, startsEither, startsIn, Start, candidate, searched, placeFrom, among};
+ghost use Rattle.frames.specs.Steps.{startsRtcm, startsEither, startsIn, Start, candidate, searched, among};
 use crate::frame;
 use crate::many;
 use crate::ubx;
@@ -32,36 +31,17 @@ pub enum Next {
 pub fn next_frame(bytes: &[u8], from: usize) -> Next
     ensures { λ r. ⌜ toldNext r ≡ nextFrom rtcm (now (bytes .entry)) from ⌝ }
 {
-    next_across(&bytes[0..0], bytes, from, 0)
-}
-
-// The next frame of the held bytes with the piece behind them, from a place on: in mode 0 of RTCM, else of either kind.
-pub fn next_across(held: &[u8], piece: &[u8], from: usize, mode: u32) -> Next
-    ensures { λ r. ⌜ toldNext r ≡ nextFrom (framingOf mode) (now (held .entry) ++ now (piece .entry)) from ⌝ }
-{
-    let all = held.len() + piece.len();
+    let all = bytes.len();
     if all <= from {
         return Next::Held(all);
     }
-    match find_from(held, piece, from, mode) {
+    match find_frame(&bytes[0..0], &bytes[from..all], 0) {
         Searched::More(i) => Next::Held(from + i),
         Searched::Frame(i, length, _) => Next::Frame {
             place: from + i,
             length,
         },
     }
-}
-
-// What a search finds from a place on, which lies in the held bytes or in the piece.
-fn find_from(held: &[u8], piece: &[u8], from: usize, mode: u32) -> Searched
-    requires { ⌜ from ≤ length (now held) + length (now piece) ⌝ }
-    ensures { λ r. ⌜ Accepted (placeFrom from r) ≡ nextFrom (framingOf mode) (now (held .entry) ++ now (piece .entry)) from ⌝ }
-{
-    let h = held.len();
-    if h <= from {
-        return find_frame(&held[0..0], &piece[from - h..piece.len()], mode);
-    }
-    find_frame(&held[from..h], piece, mode)
 }
 
 // What a search finds. More: no frame, and so many bytes to skip. Frame: the bytes to skip before it, its length, and the

@@ -2,7 +2,6 @@
 use mathlib.Core.Path.{sym, _∙_}
 use native.Mathlib.Omega.{arith}
 use lib.ListN.{length-append}
-use borrow.Author.Needs.{needs}
 use mathlib.Core.List.{_++_}
 use Rattle.frames.proofs.UbxCandidateLaws.{ubx-first-bad, ubx-second-bad, ubx-good}
 use Rattle.frames.proofs.ubx.by_sums.Statement.{statement}
