@@ -13,7 +13,7 @@ use Rattle.bits.specs.Outcome.{Outcome, outcome, refusing}
 use Rattle.bits.specs.Onto.{onto}
 use Rattle.bits.proofs.OutcomeLaws.{Keeps, accepted-keeps, refusing-keeps}
 use Rattle.frames.specs.Framing.{Framing, decide}
-use Rattle.frames.specs.Scan.{scan, framed}
+use Rattle.frames.specs.Scan.{scan}
 use Rattle.frames.specs.Rtcm.{Kind}
 use Rattle.frames.specs.Call.{Scanner, heldFrom, onwards}
 use Rattle.frames.specs.Listing.{Found, firstOf}

@@ -9,7 +9,7 @@ use lib.ListN.{length, getD, drop}
 use lib.Seq.{getD-drop}
 use lib.Dec.{leb, eqb}
 use borrow.Author.Tests.{ne-eqb}
-use Rattle.frames.specs.Scan.{Take, Wait, scan}
+use Rattle.frames.specs.Scan.{Take, Wait}
 use Rattle.frames.specs.Framing.{Framing, Lawful, decide}
 use Rattle.frames.specs.Rtcm.{Kind, Rtcm, Ubx}
 use Rattle.frames.specs.Modes.{framingOf}

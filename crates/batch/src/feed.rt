@@ -1,6 +1,5 @@
 // The call: a piece is fed to a scanner, and all its frames are listed.
 ghost use mathlib.Core.Path.{_≡_};
-ghost use mathlib.Core.List.{_++_};
 ghost use Prim.Native.Nat.{_+_, _^_, _≤_, _<_};
 ghost use lib.ListN.{length, take};
 ghost use Rattle.bits.specs.Outcome.{outcome};

@@ -11,7 +11,7 @@ use borrow.Author.Tests.{ltb-true, ltb-false, lt-ltb, le-ltb, eq-eqb, ne-eqb, eq
 use Rattle.bits.specs.Told.{Accepted, range, size, full, absent}
 use Rattle.bits.specs.Outcome.{outcome}
 use Rattle.cache.specs.Steps.{asOne}
-use Rattle.cache.specs.Cache.{Key, key, same, Value, value, fitsKey, fitsValue, free, keyIn, widened, valueIn, hasKey, entryOf, blank, first, find, Store, Remove, Lookup, fits, storeAt, removeAt, act, step}
+use Rattle.cache.specs.Cache.{Key, key, same, Value, value, fitsKey, fitsValue, free, keyIn, widened, valueIn, hasKey, entryOf, blank, first, find, Store, Remove, Lookup, storeAt, removeAt, act, step}
 
 both : (a b : Bool) → a && b ≡ true → (a ≡ true) × (b ≡ true)
 both true b e = (refl, e)

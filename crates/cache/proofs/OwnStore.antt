@@ -10,7 +10,7 @@ use borrow.Author.Tests.{eqb-true, eqb-false}
 use Rattle.bits.specs.Told.{range, size}
 use Rattle.bits.specs.Outcome.{outcome}
 use Rattle.bits.specs.Told.{full}
-use Rattle.cache.specs.Cache.{Key, Value, same, providerOf, Call, Store, Remove, Lookup, caller, Answer, fits}
+use Rattle.cache.specs.Cache.{Key, Value, providerOf, Call, Store, Remove, Lookup, caller, Answer, fits}
 use Rattle.cache.proofs.Slots.{Out, Slot, find, act, step}
 use Rattle.cache.specs.Runs.{callsOf, NoFull}
 use Rattle.cache.proofs.Slots.{answersTo, NoneHeld}

@@ -3,7 +3,6 @@
 ghost use mathlib.Core.Path.{_≡_};
 ghost use mathlib.Core.Bool.{true};
 ghost use Prim.Native.Nat.{_%_, _^_, _<_};
-ghost use lib.ListN.{length};
 ghost use Rattle.bits.specs.Outcome.{outcome};
 ghost use Rattle.cache.specs.Cache.{value, keyIn, free, hasKey, widened, entryOf, first, fitsKey, fitsValue, Store, Remove, Lookup, step};
 ghost use Rattle.cache.specs.Steps.{asOne};

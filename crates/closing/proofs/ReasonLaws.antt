@@ -1,22 +1,20 @@
 -- Why a byte is given up, by its own value and by the frame check. Assumes nothing.
-use mathlib.Core.Path.{_≡_, refl, sym, ap, _∙_, subst}
-use mathlib.Core.Bool.{Bool, true, false, cond}
-use mathlib.Core.List.{List, [], _∷_}
+use mathlib.Core.Path.{_≡_, refl, sym, ap, _∙_}
+use mathlib.Core.List.{List, _∷_}
 use Prim.Native.Nat.{ℕ, suc, _+_, _-_, _≤_, _<_}
 use native.Mathlib.Omega.{arith}
 use native.Mathlib.Decide.{ℕ-discrete, decLt}
 use lib.ListN.{length, getD, take, drop, length-drop}
 use lib.Seq.{drop-cons, drop-drop}
-use lib.Dec.{leb, eqb}
-use borrow.Author.Tests.{le-leb, lt-leb, leb-true, leb-false, eq-eqb, ne-eqb}
+use borrow.Author.Tests.{le-leb, lt-leb, eq-eqb, ne-eqb}
 use Rattle.bits.specs.Told.{Told, Accepted, Refused, size, noPreamble, OneToOne}
 use Rattle.bits.proofs.ToldLaws.{found-again}
-use Rattle.frames.specs.Scan.{Decision, Skip, Take, Wait}
+use Rattle.frames.specs.Scan.{Skip}
 use Rattle.frames.specs.Framing.{decide}
 use Rattle.frames.specs.Frame.{dataLength, sentSum, ownSum, Whole, check}
-use Rattle.frames.specs.Rtcm.{Why, NotD3, BadCheck, OfUbx, Kind, rtcm, atD3, decideAt}
+use Rattle.frames.specs.Rtcm.{Why, NotD3, BadCheck, OfUbx, rtcm, atD3, decideAt}
 use Rattle.frames.specs.Modes.{framingOf}
-use Rattle.frames.specs.Close.{Gave, Judged, Unfinished, final, closing}
+use Rattle.frames.specs.Close.{Judged, Unfinished, final, closing}
 use Rattle.frames.proofs.FrameLaws.{too-few, is-cut, sums-differ, sums-agree}
 use Rattle.frames.proofs.RtcmLaws.{decides-at}
 use Rattle.frames.proofs.StandLaws.{Tells, reason-tells}

@@ -20,7 +20,7 @@ use Rattle.frames.proofs.StandLaws.{Stands, stands}
 use Rattle.frames.proofs.CloseLaws.{closing-whole, all-given}
 use Rattle.frames.proofs.RtcmLaws.{rtcm-lawful}
 use Rattle.closing.specs.Closing.{Closes}
-use Rattle.closing.specs.Reason.{GivenUp, ruled, ruledAt, Given, listed, Reasoned, judged}
+use Rattle.closing.specs.Reason.{GivenUp, ruled, ruledAt, listed, Reasoned, judged}
 use Rattle.closing.proofs.ClosesLaws.{closes}
 use Rattle.closing.proofs.ReasonLaws.{is-ruled}
 

@@ -2,17 +2,16 @@
 use mathlib.Core.Path.{_≡_, refl, sym, ap, ap₂, _∙_}
 use mathlib.Core.Logic.{_⊎_, inl, inr}
 use mathlib.Core.List.{List}
-use Prim.Native.Nat.{ℕ, zero, suc, _+_, _-_, _*_, _^_, _≤_, _<_}
+use Prim.Native.Nat.{ℕ, _+_, _-_, _*_, _^_, _≤_, _<_}
 use native.Mathlib.Nat.{zero-add}
 use native.Mathlib.Omega.{arith}
-use lib.ListN.{length, take, drop}
-use lib.Seq.{take-length}
+use lib.ListN.{length, take}
 use mathlib.Core.Bool.{Bool, true, false}
 use lib.Dec.{ltb}
 use borrow.Author.Tests.{ltb-true, ltb-false}
 use lib.Pow.{pow-pos}
 use lib.Bits.{bitXor, xor-self, xor-comm, xor-lt}
-use Rattle.bits.specs.Crc.{crc, crcFrom, crcBits}
+use Rattle.bits.specs.Crc.{crc, crcBits}
 use Rattle.bits.specs.Field.{bitAt, field}
 use Rattle.bits.specs.Fields.{Bytes}
 use Rattle.bits.proofs.CrcLaws.{crc-is, bits-zero}

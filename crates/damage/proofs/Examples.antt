@@ -1,7 +1,6 @@
 -- The empty frame is sealed, and so are two strings that differ within 25 bits: 24 is the most that the law can say. Assumes nothing.
 use mathlib.Core.Path.{_≡_, refl}
-use mathlib.Core.List.{List, [], _∷_}
-use Prim.Native.Nat.{ℕ}
+use mathlib.Core.List.{[], _∷_}
 use lib.Dec.{lit≤}
 use Rattle.bits.specs.Crc.{crc, crcFrom, crcByte, crcBits, crcBit}
 use Rattle.bits.specs.Field.{field}

@@ -1,9 +1,8 @@
 -- The checksum fed bit by bit, from any bit on. Assumes nothing.
 use mathlib.Core.Path.{_≡_, refl, sym, ap, ap₂, _∙_}
-use mathlib.Core.List.{List, [], _∷_}
-use Prim.Native.Nat.{ℕ, zero, suc, _+_, _-_, _*_, _/_, _%_, _^_, _≤_, _<_}
-use native.Mathlib.Nat.{mul-one, mul-assoc, add-mul, zero-mul, mul-lt-mul-of-pos-right, pow-succ', add-assoc, add-suc, zero-add, add-zero}
-use native.Mathlib.Numerals.{add-one}
+use mathlib.Core.List.{List}
+use Prim.Native.Nat.{ℕ, zero, suc, _+_, _*_, _^_, _≤_, _<_}
+use native.Mathlib.Nat.{mul-one, mul-assoc, add-mul, zero-mul, mul-lt-mul-of-pos-right, pow-succ', add-assoc, add-suc, add-zero}
 use native.Mathlib.Omega.{arith}
 use lib.ListN.{length, getD, take, drop}
 use lib.Seq.{drop-cons}

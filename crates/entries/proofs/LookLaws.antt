@@ -3,7 +3,7 @@ use mathlib.Core.Path.{_≡_, sym, ap, ap₂}
 use mathlib.Core.Bool.{Bool, true, false, cond, _&&_}
 use Prim.Native.Nat.{ℕ, _≤_, _<_}
 use borrow.Author.Tests.{lt-ltb, le-ltb, eq-eqb, ne-eqb}
-use Rattle.cache.specs.Cache.{fitsKey, fitsValue, free, hasKey, widened}
+use Rattle.cache.specs.Cache.{fitsKey, fitsValue, hasKey, widened}
 use Rattle.entries.specs.Entries.{numbersOf, keyOf, valueOf}
 use Rattle.entries.specs.Walk.{longAt, heldAt, freeAt, heldIn, freeIn, lookOf, placeOf, nowhere, heldAnswer, toldOf, startOf, askToStore, askFor}
 use Rattle.entries.specs.declared.Entry.{Entry}

@@ -1,7 +1,6 @@
 -- WHAT `pv_close` PROMISES A C PROGRAM: closing until Done, that it comes to Done, and the recording with its sum, by its number, its eight numbers and its two areas, in every mode. Assumes nothing.
 use mathlib.Core.Path.{_≡_, refl, sym, ap, subst, _∙_}
-use mathlib.Core.Bool.{Bool, true, false}
-use mathlib.Core.List.{List, [], _∷_, _++_}
+use mathlib.Core.List.{List, [], _++_}
 use Prim.Native.Nat.{ℕ, _+_, _-_}
 use native.Mathlib.Omega.{arith}
 use lib.ListN.{length, take, getD}
@@ -14,9 +13,8 @@ use Rattle.frames.specs.Framing.{Framing, decide}
 use Rattle.frames.specs.Scan.{Handed, framed, handed, skippedOf, bytesOf}
 use Rattle.frames.specs.Feed.{Next, Held, Found, next, only}
 use Rattle.frames.specs.Call as call
-use Rattle.frames.specs.Call.{Scanner, FedAnswer, FedOutcome, onwards, heldFrom, called, feedOf}
+use Rattle.frames.specs.Call.{Scanner, FedAnswer, onwards, heldFrom, called, feedOf}
 use Rattle.frames.specs.Close.{Gave, closed, ending, ClosedAnswer, Done, Frame, closedBy, closeOf}
-use Rattle.frames.specs.Offered.{Calls}
 use Rattle.frames.proofs.CallLaws.{Fits, accepts}
 use Rattle.frames.proofs.CloseLaws.{close-is}
 use Rattle.frames.proofs.ModeLaws.{lawful}

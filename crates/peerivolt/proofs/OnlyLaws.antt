@@ -3,7 +3,7 @@ use mathlib.Core.Path.{_≡_, sym, ap, _∙_}
 use mathlib.Core.List.{List}
 use Prim.Native.Nat.{ℕ}
 use lib.IntN.{ℤ}
-use Rattle.bits.specs.Told.{Told, Accepted}
+use Rattle.bits.specs.Told.{Accepted}
 use Rattle.bits.specs.Crc.{crc}
 use Rattle.bits.specs.Field.{readUnsigned, readTwos, readSignmag, writeUnsigned, writeTwos, writeSignmag}
 use Rattle.frames.specs.Frame.{check, writeFrame}

@@ -1,6 +1,5 @@
 -- A block of zeros passes its check but has edition 0. Assumes nothing.
 use mathlib.Core.Path.{_≡_, refl}
-use Prim.Native.Nat.{ℕ}
 use lib.ListN.{replicate}
 use Rattle.bits.specs.Told.{kind}
 use Rattle.bits.specs.Crc.{crc, crcFrom, crcByte, crcBits, crcBit}

@@ -1,12 +1,12 @@
 -- Lists that a function gives, place by place; and writing one over the front of an area, one place after another. Assumes nothing.
 use mathlib.Core.Path.{_≡_, refl, sym, ap, ap₂, _∙_}
 use mathlib.Core.List.{List, [], _∷_, _++_}
-use Prim.Native.Nat.{ℕ, zero, suc, _+_, _-_, _≤_, _<_}
-use native.Mathlib.Nat.{add-zero, zero-add, add-suc}
+use Prim.Native.Nat.{ℕ, zero, suc, _+_, _<_}
+use native.Mathlib.Nat.{add-zero, zero-add}
 use native.Mathlib.Numerals.{add-one}
 use native.Mathlib.Omega.{arith}
-use lib.ListN.{length, getD, set, take, drop, length-append, length-drop}
-use lib.Seq.{ext-getD, getD-append-add, drop-cons, set-at, append-snoc, drop-append-add}
+use lib.ListN.{length, getD, set, drop}
+use lib.Seq.{ext-getD, drop-cons, set-at, append-snoc}
 use Rattle.bits.specs.Onto.{onto}
 use Rattle.settings.specs.Block.{listed}
 

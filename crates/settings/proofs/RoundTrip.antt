@@ -3,7 +3,7 @@ use mathlib.Core.Path.{_≡_, refl, sym, ap, ap₂, _∙_}
 use mathlib.Core.Logic.{_⊎_, inl, inr}
 use mathlib.Core.Bool.{Bool, true, false, cond, not}
 use mathlib.Core.List.{List, []}
-use Prim.Native.Nat.{ℕ, _-_, _≤_, _<_}
+use Prim.Native.Nat.{ℕ, _≤_, _<_}
 use native.Mathlib.Omega.{arith}
 use lib.ListN.{length, getD, take, drop}
 use lib.Seq.{take-at}
@@ -13,7 +13,7 @@ use Rattle.bits.specs.Told.{Told, Accepted, Refused}
 use Rattle.bits.specs.Outcome.{Outcome, outcome, refusing}
 use Rattle.bits.specs.Onto.{onto}
 use Rattle.settings.specs.Block.{listed, known, bad, firstBad, blockOf, numberIn, priorityIn, numbersIn, prioritiesIn}
-use Rattle.settings.specs.Read.{sentSum, ownSum, canRead, zeros, filled, badIn, found, judge, readSettings}
+use Rattle.settings.specs.Read.{sentSum, ownSum, canRead, filled, badIn, found, judge, readSettings}
 use Rattle.settings.specs.Write.{badOf, mayWrite, writeSettings}
 use Rattle.settings.proofs.ListedLaws.{listed-self, listed-ext}
 use Rattle.settings.proofs.ReadLaws.{is-filled, by-entries, passed}

@@ -1,15 +1,15 @@
 -- Which case of writing holds, and that bytes and sum written one behind another are the block. Assumes nothing.
-use mathlib.Core.Path.{_≡_, refl, sym, ap, ap₂, _∙_}
+use mathlib.Core.Path.{_≡_, ap, ap₂, _∙_}
 use mathlib.Core.Bool.{true, false}
-use mathlib.Core.List.{List, _++_}
-use Prim.Native.Nat.{ℕ, suc, _+_, _-_, _^_, _≤_, _<_}
+use mathlib.Core.List.{List}
+use Prim.Native.Nat.{ℕ, _-_, _^_, _≤_, _<_}
 use native.Mathlib.Omega.{arith}
 use lib.ListN.{length, take, drop}
 use lib.Seq.{take-at}
 use borrow.Author.Tests.{lt-ltb, le-ltb, eq-eqb, ne-eqb}
 use Rattle.bits.specs.Told.{Accepted, size, kind, range, room}
 use Rattle.bits.specs.Outcome.{outcome}
-use Rattle.bits.specs.Crc.{crc, threeBytes, summed}
+use Rattle.bits.specs.Crc.{crc, threeBytes}
 use Rattle.bits.specs.Onto.{onto, over}
 use Rattle.bits.proofs.CrcLaws.{crc-below}
 use Rattle.bits.proofs.OntoLaws.{over-onto}

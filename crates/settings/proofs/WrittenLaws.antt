@@ -1,7 +1,6 @@
 -- What a block that was written holds: its index, edition, count and entries, zeros behind them, and its checksum. Assumes nothing.
 use mathlib.Core.Path.{_≡_, refl, sym, ap, ap₂, _∙_}
-use mathlib.Core.Logic.{_⊎_, inl, inr}
-use mathlib.Core.Bool.{Bool, true, false, cond}
+use mathlib.Core.Bool.{Bool, true, cond}
 use mathlib.Core.List.{List, _++_}
 use Prim.Native.Nat.{ℕ, zero, suc, _+_, _-_, _*_, _/_, _%_, _^_, _≤_, _<_}
 use native.Mathlib.Omega.{arith}
@@ -9,13 +8,12 @@ use lib.ListN.{length, getD, take, drop, length-append, List·getD-append}
 use lib.Seq.{take-at, drop-at}
 use borrow.Author.Tests.{eq-eqb, ne-eqb}
 use Rattle.bits.specs.Field.{field}
-use Rattle.bits.specs.Crc.{crc, threeBytes, summed}
+use Rattle.bits.specs.Crc.{crc, threeBytes}
 use Rattle.bits.proofs.CrcLaws.{crc-below}
 use Rattle.bits.proofs.PartLaws.{field-drop}
 use Rattle.bits.proofs.ThreeLaws.{three-back}
 use Rattle.settings.specs.Block.{listed, bad, firstBad, entryByte, listByte, byteOf, blockOf, indexIn, editionIn, countIn, entryPlace, numberIn, priorityIn}
-use Rattle.settings.specs.Read.{sentSum, ownSum, zeros, filled, badIn}
-use Rattle.settings.specs.Write.{badOf}
+use Rattle.settings.specs.Read.{sentSum, ownSum, zeros, filled}
 use Rattle.settings.proofs.ListedLaws.{length-listed, getD-listed}
 use Rattle.settings.proofs.LayoutLaws.{no-entry, high-byte, low-byte, priority-byte, pairs, triples, byte-0, byte-1, byte-2, byte-3, byte-later, place-first, place-second}
 

@@ -1,9 +1,8 @@
 -- What stands before the block of a message, as the standard's tables have it. Assumes nothing.
-use mathlib.Core.Bool.{Bool, _&&_}
+use mathlib.Core.Bool.{Bool}
 use mathlib.Core.List.{List}
 use Prim.Native.Nat.{ℕ}
 use Rattle.bits.specs.Fields.{Field}
-use Rattle.bits.specs.Signed.{fitsUnsigned}
 use Rattle.formats.specs.Format.{Format, unsigned, _then_, shaped, numbered}
 use Rattle.whole.specs.declared.answer.Header1059.{Header1059}
 use Rattle.whole.specs.declared.answer.Header1230.{Header1230}

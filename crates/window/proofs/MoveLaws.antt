@@ -1,10 +1,10 @@
 -- Reducing a number, and the steps of the checksum. Assumes nothing.
-use mathlib.Core.Path.{_≡_, refl, sym, ap, ap₂, _∙_}
-use Prim.Native.Nat.{ℕ, zero, suc, _+_, _*_, _/_, _%_, _^_, _≤_, _<_}
+use mathlib.Core.Path.{_≡_, sym, ap, ap₂, _∙_}
+use Prim.Native.Nat.{ℕ, zero, suc, _+_, _*_, _/_, _%_, _^_, _<_}
 use native.Mathlib.Nat.{zero-mul, one-mul, add-comm}
 use native.Mathlib.Omega.{arith}
 use lib.Bits.{bitXor, xor-shr, xor-zero-r}
-use Rattle.bits.specs.Crc.{crcBit, crcBits, crcByte}
+use Rattle.bits.specs.Crc.{crcBits, crcByte}
 use Rattle.bits.proofs.CrcLaws.{bit-is, bits-none, bits-zero, bits-more, byte-is, bits-linear}
 use Rattle.bits.proofs.XorLaws.{xor-shl}
 use Rattle.bits.proofs.RemLaws.{bits-add}

@@ -1,6 +1,6 @@
 -- A byte times a weight, reduced, is what the byte adds to the checksum of its tail. Assumes nothing.
-use mathlib.Core.Path.{_≡_, refl, sym, ap, ap₂, _∙_}
-use Prim.Native.Nat.{ℕ, zero, suc, _+_, _*_, _/_, _%_, _^_, _≤_, _<_}
+use mathlib.Core.Path.{_≡_, sym, ap, ap₂, _∙_}
+use Prim.Native.Nat.{ℕ, zero, suc, _*_, _/_, _%_, _^_, _<_}
 use native.Mathlib.Nat.{mod-lt, zero-lt-suc, zero-mul, one-mul}
 use native.Mathlib.Omega.{arith}
 use lib.Bits.{bitXor, xor-shr, xor-mod}
@@ -8,7 +8,7 @@ use Rattle.bits.specs.Crc.{crcBits, crcByte}
 use Rattle.bits.proofs.CrcLaws.{bits-linear}
 use Rattle.bits.proofs.XorLaws.{xor-times, xor-shl}
 use Rattle.bits.proofs.LinearLaws.{Linear, by-test, xor-linear}
-use Rattle.window.specs.Steps.{times, low, term}
+use Rattle.window.specs.Steps.{times, low}
 use Rattle.window.proofs.MoveLaws.{move, moves, moves-linear, byte-alone, low-linear, moved-0, moved-1, moved-2, moved-3, moved-4, moved-5, moved-6, moved-7, by-bit}
 
 -- a bit times a number fits where the number fits

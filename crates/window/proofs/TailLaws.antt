@@ -1,14 +1,13 @@
 -- The checksums of tails: how one follows from the next, and what two of them tell of the bytes between. Assumes nothing.
-use mathlib.Core.Path.{_≡_, refl, sym, ap, ap₂, _∙_, subst}
+use mathlib.Core.Path.{_≡_, refl, sym, ap, ap₂, _∙_}
 use mathlib.Core.List.{List, [], _∷_, _++_, append-assoc}
-use Prim.Native.Nat.{ℕ, zero, suc, _+_, _-_, _*_, _/_, _%_, _^_, _≤_, _<_}
-use native.Mathlib.Nat.{add-suc, le-of-suc-le-suc, not-suc-le-zero, zero-mul}
-use native.Mathlib.Numerals.{add-one}
+use Prim.Native.Nat.{ℕ, zero, suc, _+_, _-_, _*_, _^_, _≤_, _<_}
+use native.Mathlib.Nat.{le-of-suc-le-suc, not-suc-le-zero, zero-mul}
 use native.Mathlib.Omega.{arith}
-use lib.ListN.{length, getD, set, take, drop, length-append, length-drop, length-take, take-append-drop}
+use lib.ListN.{length, getD, set, take, drop, length-drop}
 use lib.Seq.{drop-cons, take-suc, append-snoc, set-at, length-take-le, take-add, drop-drop}
 use lib.Bits.{bitXor, xor-comm, xor-zero-r, xor-self, xor-lt}
-use Rattle.bits.specs.Onto.{onto, over}
+use Rattle.bits.specs.Onto.{over}
 use Rattle.bits.specs.Fields.{Bytes}
 use Rattle.bits.specs.Field.{field}
 use Rattle.bits.specs.Crc.{crcBits, crcByte, crcFrom, crc}

@@ -1,7 +1,6 @@
 -- A row goes through its bytes: the measure is the number that are left. Assumes nothing.
 use mathlib.Core.Path.{_≡_, refl}
 use Prim.Native.Nat.{_-_}
-use native.Mathlib.Omega.{arith}
 use lib.ListN.{length}
 use borrow.Author.Needs.{needs}
 use Rattle.rtcm_compare.proofs.row.Statement.{statement}

@@ -1,8 +1,8 @@
 -- The tails from place k on are stored. Assumes nothing.
-use mathlib.Core.Path.{_≡_, _∙_}
-use Prim.Native.Nat.{ℕ, _-_}
+use mathlib.Core.Path.{_∙_}
+use Prim.Native.Nat.{_-_}
 use native.Mathlib.Omega.{arith}
-use lib.ListN.{length, set, length-set}
+use lib.ListN.{length, length-set}
 use borrow.Author.Needs.{needs}
 use Rattle.window.proofs.FillLaws.{Filling}
 use Rattle.window.proofs.SumLaws.{weightAt, adding-first, adding-more, adding-end}

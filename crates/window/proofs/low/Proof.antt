@@ -1,5 +1,4 @@
 -- The low bits, and what the bits above them add. Assumes nothing.
-use native.Mathlib.Omega.{arith}
 use borrow.Author.Needs.{needs}
 use Rattle.window.proofs.HalfLaws.{by-halves}
 use Rattle.window.proofs.low.Statement.{statement}

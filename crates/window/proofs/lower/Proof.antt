@@ -1,6 +1,6 @@
 -- What each number of four bits adds, computed, by cases. Assumes nothing.
 use mathlib.Core.Path.{sym, ap, _∙_}
-use Prim.Native.Nat.{ℕ, _*_}
+use Prim.Native.Nat.{ℕ}
 use Rattle.bits.specs.Crc.{crcByte}
 use Rattle.window.proofs.MoveLaws.{move, moves, byte-alone}
 use Rattle.window.proofs.HalfLaws.{last}

@@ -1,5 +1,4 @@
 -- Each number of the key against its field. Assumes nothing.
-use borrow.Author.Needs.{needs}
 use Rattle.cache.proofs.CodeLaws.{bad-provider, bad-solution, bad-satellite, by-signal}
 use Rattle.cache.proofs.cache.fits_key.Statement.{statement}
 use Rattle.cache.proofs.cache.fits_key.Tie as tie

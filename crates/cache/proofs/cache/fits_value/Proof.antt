@@ -1,6 +1,5 @@
 -- IOD and bias against their fields. Assumes nothing.
 use native.Mathlib.Omega.{arith}
-use borrow.Author.Needs.{needs}
 use Rattle.cache.proofs.CodeLaws.{bad-iod, small-bias, large-bias}
 use Rattle.cache.proofs.cache.fits_value.Statement.{statement}
 use Rattle.cache.proofs.cache.fits_value.Tie as tie

@@ -1,5 +1,5 @@
 -- Each refusal in its order; then freed, or Absent. Assumes nothing.
-use mathlib.Core.Path.{_≡_, sym, _∙_}
+use mathlib.Core.Path.{sym, _∙_}
 use borrow.Author.Tests.{not-true, not-false}
 use borrow.Author.Needs.{needs}
 use Rattle.cache.specs.Cache.{key}

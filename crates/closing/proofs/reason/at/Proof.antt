@@ -1,5 +1,5 @@
 -- A byte other than D3 is ruled by itself, a D3 by the frame check of the bytes from it on. Assumes nothing.
-use mathlib.Core.Path.{_≡_, ap, sym, _∙_, subst}
+use mathlib.Core.Path.{_≡_, ap, subst}
 use borrow.Author.Needs.{needs}
 use Rattle.bits.specs.Told.{Accepted}
 use Rattle.frames.specs.Rtcm.{atD3}

@@ -1,8 +1,7 @@
 -- Before place i, all bytes are equal. Assumes nothing.
-use mathlib.Core.Path.{_≡_, refl, sym, ap, _∙_}
-use Prim.Native.Nat.{ℕ, _≤_, _-_, _+_}
+use mathlib.Core.Path.{_≡_, sym, ap, _∙_}
+use Prim.Native.Nat.{_≤_, _-_, _+_}
 use native.Mathlib.Omega.{arith}
-use lib.ListN.{length}
 use borrow.Author.Needs.{needs}
 use Rattle.damage.specs.Compare.{firstFrom}
 use Rattle.damage.proofs.PlaceLaws.{first-here, first-after, first-end}

@@ -1,5 +1,5 @@
 -- The words are compared in the order of the definition. Assumes nothing.
-use mathlib.Core.Logic.{_⊎_, inl, inr}
+use mathlib.Core.Logic.{inl, inr}
 use borrow.Author.Needs.{needs}
 use Rattle.reading.proofs.ArgumentLaws.{differs, no-dash}
 use Rattle.reading.proofs.arguments.kind_of.Statement.{statement}

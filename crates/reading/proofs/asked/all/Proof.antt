@@ -3,7 +3,6 @@ use mathlib.Core.Path.{refl, _∙_}
 use mathlib.Core.List.{[]}
 use Prim.Native.Nat.{_-_}
 use native.Mathlib.Omega.{arith}
-use borrow.Author.Needs.{needs}
 use Rattle.reading.proofs.AskedLaws.{Known, one-more, none-seen}
 use Rattle.reading.proofs.asked.all.Statement.{statement}
 use Rattle.reading.proofs.asked.all.Tie as tie

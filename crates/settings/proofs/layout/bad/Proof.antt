@@ -1,5 +1,4 @@
 -- Each case of a bad entry. Assumes nothing.
-use borrow.Author.Needs.{needs}
 use Rattle.settings.proofs.LayoutLaws.{bad-number, good-first, bad-priority, good-second}
 use Rattle.settings.proofs.layout.bad.Statement.{statement}
 use Rattle.settings.proofs.layout.bad.Tie as tie

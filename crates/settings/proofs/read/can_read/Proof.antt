@@ -1,5 +1,4 @@
 -- Each reader, and each edition. Assumes nothing.
-use borrow.Author.Needs.{needs}
 use Rattle.settings.proofs.ReadLaws.{reader-1, no-reader, reader-2-first, reader-2-second}
 use Rattle.settings.proofs.read.can_read.Statement.{statement}
 use Rattle.settings.proofs.read.can_read.Tie as tie

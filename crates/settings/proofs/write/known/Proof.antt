@@ -1,5 +1,4 @@
 -- Edition 1, or 2. Assumes nothing.
-use borrow.Author.Needs.{needs}
 use Rattle.settings.proofs.LayoutLaws.{first-known, second-known}
 use Rattle.settings.proofs.write.known.Statement.{statement}
 use Rattle.settings.proofs.write.known.Tie as tie

@@ -1,7 +1,6 @@
 -- `whole::read1230::header_at` meets its contract. Each field is read, or is the first that is cut. Assumes nothing.
 use borrow.Author.Needs.{needs}
 use mathlib.Core.Path.{sym, ap, _∙_}
-use native.Mathlib.Omega.{arith}
 use Rattle.whole.specs.Steps.{toldNumber}
 use Rattle.whole.proofs.TakeLaws.{number-cut}
 use Rattle.whole.proofs.Front1230.{station-cut, indicator-cut, reserved-cut, front-read}

@@ -1,8 +1,7 @@
 -- `whole::write1059::is_edition` meets its contract: there are the editions from 1 on. Assumes nothing.
-use mathlib.Core.Path.{_≡_, sym, ap}
+use mathlib.Core.Path.{sym, ap}
 use mathlib.Core.Bool.{Bool, _&&_}
 use native.Mathlib.Omega.{arith}
-use borrow.Author.Needs.{needs}
 use borrow.Author.Tests.{lt-ltb}
 use lib.Dec.{ltb}
 use Rattle.whole.proofs.write1059.is_edition.Statement.{statement}
