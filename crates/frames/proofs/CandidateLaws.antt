@@ -21,6 +21,7 @@ use Rattle.frames.specs.Steps.{Start, candidate, candidateBy}
 use Rattle.frames.specs.declared.scan.Candidate.{Candidate}
 use Rattle.frames.specs.declared.scan.Candidate.the-variants.{Incomplete, NotValid, Good}
 use Rattle.frames.proofs.FrameLaws.{length-at, three-field}
+use Rattle.frames.proofs.AppendLaws.{length-stays}
 use Rattle.frames.proofs.SeamLaws.{at-left, at-right}
 
 -- ---- the first start byte of two lists, one behind the other
@@ -123,6 +124,14 @@ module _ (s : List ℕ) (i : ℕ) (e : getD s i 0 ≡ 0xD3) where
       candidate-bad q = ap (λ k. NotValid (k + 6)) f ∙ bad (drop i s) start fits (λ r. q (sym own-is ∙ r ∙ sent-is))
 
 -- ---- what it says, of any framing
+
+pub never : {X : Type 0} → false ≡ true → X
+never e = let z : _≡_ {A = ℕ} (cond false 1 0) (cond true 1 0) = ap (λ b. cond b 1 0) e in absurd (omega arith)
+
+-- a D3 at the front of h claims more bytes than h and p have
+pub front-cut : (h p : List ℕ) (n : ℕ) → 3 ≤ length h → getD h 0 0 ≡ 0xD3 → n ≡ dataLength (drop 0 h) → length h + length p < n + 6 → Incomplete ≡ candidate rtcm (h ++ p)
+front-cut h p n l e f k =
+    candidate-cut (h ++ p) 0 (sym (at-left h p 0 (omega arith)) ∙ e) n (f ∙ sym (length-stays h p l)) (rw length-append (omega arith))
 
 module _ {W K : Type 0} (F : Framing W K) where
   -- as the laws of a call take it

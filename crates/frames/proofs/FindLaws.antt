@@ -59,6 +59,12 @@ module _ {W K : Type 0} (F : Framing W K) (L : Lawful F) (start : ℕ → Bool) 
       let z : 0 ≡ length h - length h = omega arith in
       record { behind = omega arith; reached = subst₂ (λ i t. Reached F h p i t) refl z (reached-start F h p) }
 
+  -- what stands at the front waits
+  pub front-waits : Incomplete ≡ candidate F (h ++ p) → More 0 ≡ searched (feed (decide F) h p)
+  front-waits q =
+      let w : Says F (drop 0 (h ++ p)) Incomplete = says F L (drop 0 (h ++ p)) Incomplete q in
+      turn-short F h p L 0 0 (reached-start F h p) (omega (arith, length-from h p 0))
+
   module _ (i e : ℕ) (c : Came i e) where
     -- all was skipped
     pub all-skipped : length h + length p ≤ i → More i ≡ searched (feed (decide F) h p)

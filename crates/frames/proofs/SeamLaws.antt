@@ -1,13 +1,13 @@
 -- Two lists, one behind the other: bytes and parts of them as the code finds and copies them. Assumes nothing.
 use mathlib.Core.Path.{_≡_, refl, sym, ap, ap₂, _∙_}
-use mathlib.Core.List.{List, [], _∷_, _++_, append-nil}
+use mathlib.Core.List.{List, [], _∷_, _++_, append-nil, append-assoc}
 use Prim.Native.Nat.{ℕ, zero, suc, _+_, _-_, _≤_, _<_, min}
 use native.Mathlib.Nat.{add-sub-of-le, sub-zero, zero-sub, suc-sub-suc, add-comm, not-suc-le-zero, le-of-suc-le-suc}
 use native.Mathlib.Numerals.{add-one}
 use native.Mathlib.Omega.{arith}
 use native.Mathlib.Decide.{decLt}
-use lib.ListN.{length, getD, take, drop, set, length-append, length-drop, List·getD-append}
-use lib.Seq.{getD-append-add, getD-drop, drop-append-le, drop-append-add, take-append-le, take-append-add, take-all, take-nil, length-take-le}
+use lib.ListN.{length, getD, take, drop, set, length-append, length-drop, take-append-drop, List·getD-append}
+use lib.Seq.{getD-append-add, getD-drop, drop-append-le, drop-append-add, take-append-le, take-append-add, take-all, take-nil, take-take, drop-drop, length-take-le, paste, take-paste, drop-paste}
 use Rattle.bits.specs.Onto.{onto, over}
 use Rattle.bits.specs.Crc.{crc, crcFrom}
 use Rattle.bits.proofs.CrcLaws.{crc-append}
@@ -32,6 +32,12 @@ drop-take zero t l = rw sub-zero
 drop-take (suc f) zero l = rw zero-sub
 drop-take (suc f) (suc t) [] = sym (take-nil (suc t - suc f))
 drop-take (suc f) (suc t) (x ∷ l) = rw suc-sub-suc (drop-take f t l)
+
+drop-past : (n : ℕ) (l : List ℕ) → length l ≤ n → drop n l ≡ []
+drop-past zero [] h = refl
+drop-past zero (x ∷ l) h = absurd (not-suc-le-zero h)
+drop-past (suc n) [] h = refl
+drop-past (suc n) (x ∷ l) h = drop-past n l (le-of-suc-le-suc h)
 
 module _ (h p : List ℕ) (i n : ℕ) where
   -- behind the seam
@@ -70,6 +76,42 @@ module _ (h p : List ℕ) (i n : ℕ) where
 
 -- ---- copies
 
+-- the first w bytes of p over those from place i on, and then all from its byte m on: all of p stands there
+module _ (p d : List ℕ) (i w m : ℕ) (k : m ≤ w) (l : w ≤ length p) (r : i + length p ≤ length d) where
+  abbrev once : List ℕ
+  once = paste d i p w
+
+  once-is : over i (take (w - 0) p) d ≡ once
+  once-is = ap (λ n. over i (take n p) d) (sub-zero w) ∙ ap (λ n. take i d ++ take w p ++ drop (i + n) d) (length-take-le w p l)
+
+  rest : take (length p - m) (drop m p) ≡ drop m p
+  rest = take-all (length p - m) (drop m p) (rw length-drop (omega arith))
+
+  before : take (i + m) once ≡ take i d ++ take m p
+  before =
+      let e : length (take i d) + m ≡ i + m = rw (length-take-le i d (omega arith)) refl in
+      sym (take-take (i + m) (i + w) once (omega arith))
+      ∙ ap (take (i + m)) (take-paste d i p w (omega arith) l)
+      ∙ ap (λ n. take n (take i d ++ take w p)) (sym e)
+      ∙ take-append-add (take i d) (take w p) m
+      ∙ ap (λ x. take i d ++ x) (take-take m w p k)
+
+  behind : drop (i + m + length (drop m p)) once ≡ drop (i + length p) d
+  behind =
+      let e : i + m + length (drop m p) ≡ i + w + (length p - w) = rw length-drop (omega arith) in
+      let f : i + w + (length p - w) ≡ i + length p = omega arith in
+      ap (λ n. drop n once) e
+      ∙ sym (drop-drop (length p - w) (i + w) once)
+      ∙ ap (drop (length p - w)) (drop-paste d i p w (omega arith) l)
+      ∙ drop-drop (length p - w) (i + w) d
+      ∙ ap (λ n. drop n d) f
+
+  pub over-again : over (i + m) (take (length p - m) (drop m p)) (over i (take (w - 0) p) d) ≡ over i p d
+  over-again =
+      ap₂ (over (i + m)) rest once-is
+      ∙ ap₂ (λ x y. x ++ drop m p ++ y) before behind
+      ∙ ap (λ x. x ++ drop (i + length p) d) (append-assoc (take i d) (take m p) (drop m p) ∙ ap (λ x. take i d ++ x) (take-append-drop m p))
+
 module _ (h p : List ℕ) (i n : ℕ) (d : List ℕ) where
   pub gather-right : length h ≤ i → over 0 (take (i - length h + n - (i - length h)) (drop (i - length h) p)) d ≡ onto (take n (drop i (h ++ p))) d
   gather-right l = ap (λ x. over 0 x d) (part-right h p i n l) ∙ over-zero (take n (drop i (h ++ p))) d
@@ -82,9 +124,38 @@ module _ (h p : List ℕ) (i n : ℕ) (d : List ℕ) where
       let k : length xs ≡ m = length-take-le (i + m - i) (drop i h) (rw length-drop (omega arith)) ∙ omega arith in
       ap (over m ys) (over-zero xs d) ∙ over-onto xs ys d m k ∙ ap (λ x. onto x d) (part-across h p i n m l e)
 
+pub none-taken : (n : ℕ) → length {A = ℕ} (take n []) ≡ 0
+none-taken n = ap (λ (x : List ℕ). length x) (take-nil n)
+
+-- a part of the first bytes of a, with no piece behind them
+pub gather-alone : (a d : List ℕ) (count i n : ℕ) → i + n ≤ count → over 0 (take (i + n - i) (drop i a)) d ≡ onto (take n (drop i (take (count - 0) a ++ take (0 - 0) []))) d
+gather-alone a d count i n l =
+    let e : i + n - i ≡ n = omega arith in
+    let f : take (i + n - i) (drop i a) ≡ take n (drop i (take (count - 0) a ++ take (0 - 0) [])) =
+    ap (λ k. take k (drop i a)) e
+    ∙ sym (take-take n (count - i) (drop i a) (omega arith))
+    ∙ ap (take n) (sym (drop-take i count a))
+    ∙ ap (λ z. take n (drop i z)) (sym (append-nil (take count a)))
+    ∙ ap₂ (λ k z. take n (drop i (take k a ++ z))) (sym (sub-zero count)) (sym (take-nil (0 - 0))) in
+    ap (λ x. over 0 x d) f ∙ over-zero (take n (drop i (take (count - 0) a ++ take (0 - 0) []))) d
+
 module _ (a p : List ℕ) (count i : ℕ) (l : count ≤ length a) where
   pub slide-none : i ≡ 0 → over count p a ≡ onto (drop i (take count a ++ p)) a
   slide-none e = rw (e, length-append, length-take-le count a l)
+
+  -- nothing is left
+  pub slide-all : count + length p - i ≡ 0 → a ≡ onto (drop i (take count a ++ p)) a
+  slide-all e =
+      let f : drop i (take count a ++ p) ≡ [] = drop-past i (take count a ++ p) (rw (length-append, length-take-le count a l) (omega arith)) in
+      ap (λ x. onto x a) (sym f)
+
+  -- what is left moves to the front, with no piece behind it
+  pub slide-alone : i ≤ count → take (count - i) (drop i a) ++ drop (count - i) a ≡ onto (drop i (take count a ++ [])) a
+  slide-alone m =
+      let xs = take (count - i) (drop i a) in
+      let e : length xs ≡ count - i = length-take-le (count - i) (drop i a) (rw length-drop (omega arith)) in
+      let f : xs ≡ drop i (take count a ++ []) = sym (drop-take i count a) ∙ ap (drop i) (sym (append-nil (take count a))) in
+      ap (λ n. xs ++ drop n a) (sym e) ∙ ap (λ x. onto x a) f
 
   pub slide-right : count ≤ i → over 0 (take (length p - (i - count)) (drop (i - count) p)) a ≡ onto (drop i (take count a ++ p)) a
   slide-right m =

@@ -1,10 +1,16 @@
 // Closing: at the end of a recording the bytes that are held are scanned once more, and nothing waits.
 ghost use mathlib.Core.Path.{_≡_};
+ghost use mathlib.Core.List.{[]};
+ghost use Prim.Native.Nat.{_^_, _≤_, _<_};
+ghost use lib.ListN.{length};
 ghost use Rattle.bits.specs.Outcome.{outcome};
 ghost use Rattle.frames.specs.Modes.{framingOf};
 ghost use Rattle.frames.specs.Close.{closedBy, closeOf};
 ghost use Rattle.frames.specs.Answers.{known, toldFed, toldClosed};
+ghost use Rattle.frames.specs.Steps.{moved, CanHold};
+use crate::frame;
 use crate::scan;
+use crate::scan::Searched;
 use crate::scanner;
 use crate::scanner::Fed;
 use crate::scanner::Kind;
@@ -55,8 +61,39 @@ pub fn close(held: &mut [u8], scanner: Scanner, out: &mut [u8]) -> Closed
     }
     let count = scanner.count;
     let searched = scan::find_at_end(&held[0..count], scanner.mode);
-    let none = [0u8; 1];
-    ended(scanner::carry_out(held, scanner, &none[0..0], out, searched))
+    ended(carry_out(held, scanner, out, searched))
+}
+
+// Does what a search of the bytes held alone found: a frame is handed out, and what stands behind it, or behind the bytes
+// to skip, is held.
+fn carry_out(held: &mut [u8], scanner: Scanner, out: &mut [u8], searched: Searched) -> Fed
+    requires { ⌜ (scanner .count ≤ length (now held)) × (length (now held) ≤ length (now out)) × (1 ≤ length (now out)) × (scanner .count ≤ scanner .taken) × (scanner .taken < 2 ^ 63) × CanHold (length (now held)) (scanner .count) 0 searched ⌝ }
+    ensures { λ r. ⌜ outcome (toldFed r) (now (held .exit), now (out .exit)) ≡ moved (now (held .entry)) (known scanner) [] (now (out .entry)) searched ⌝ }
+{
+    let count = scanner.count;
+    match searched {
+        Searched::More(i) => {
+            scanner::shift(held, i, count - i);
+            Fed::More {
+                taken: 0,
+                skipped: i,
+                scanner: scanner::onwards(scanner, 0, count - i),
+            }
+        }
+        Searched::Frame(i, length, _) => {
+            let behind = i + length;
+            frame::put_at(&held[i..behind], out, 0);
+            scanner::shift(held, behind, count - behind);
+            Fed::Frame {
+                length,
+                taken: 0,
+                skipped: i,
+                place: scanner.taken - count as u64 + i as u64,
+                kind: scanner::kind_of(out[0]),
+                scanner: scanner::onwards(scanner, 0, count - behind),
+            }
+        }
+    }
 }
 
 // A call that was fed no piece, as a closing call: More is Done, and makes the scanner fresh.

@@ -147,8 +147,24 @@ fn put_three(out: &mut [u8], i: usize, v: u32)
     out[i + 2] = (v % 0x100) as u8;
 }
 
-// Writes the part over the output from byte i on.
+// Writes the part over the output from byte i on: 32 bytes at a time, and the last 32 once more, so that no few are left
+// over.
 pub(crate) fn put_at(part: &[u8], out: &mut [u8], i: usize)
+    requires { ⌜ i + length (now part) ≤ length (now out) ⌝ }
+    ensures { λ _. ⌜ now (out .exit) ≡ over i (now (part .entry)) (now (out .entry)) ⌝ }
+{
+    let n = part.len();
+    if n < 32 {
+        put_each(part, out, i);
+        return;
+    }
+    let last = n - 32;
+    put_each(&part[0..n / 32 * 32], out, i);
+    put_each(&part[last..n], out, i + last);
+}
+
+// The same byte by byte.
+fn put_each(part: &[u8], out: &mut [u8], i: usize)
     requires { ⌜ i + length (now part) ≤ length (now out) ⌝ }
     ensures { λ _. ⌜ now (out .exit) ≡ over i (now (part .entry)) (now (out .entry)) ⌝ }
 {

@@ -123,7 +123,7 @@ fn pass(
 }
 
 // The length of the data that the candidate at place i of the piece claims.
-fn data_length(piece: &[u8], i: usize) -> usize
+pub(crate) fn data_length(piece: &[u8], i: usize) -> usize
     requires { ⌜ i + 3 ≤ length (now piece) ⌝ }
     ensures { λ r. ⌜ (r ≡ dataLength (drop i (now (piece .entry)))) × (r < 1024) ⌝ }
 {

@@ -15,6 +15,7 @@ ghost use Rattle.frames.specs.Modes.{framingOf};
 ghost use Rattle.frames.specs.Close.{ending};
 ghost use Rattle.frames.specs.Walk.{nextFrom};
 ghost use Rattle.frames.specs.Answers.{toldNext};
+ghost use Rattle.frames.specs.declared.scan.Candidate.the-variants.{Incomplete};
 ghost use Rattle.frames.specs.Steps.{startsRtcm, startsEither, startsIn, Start, candidate, searched, among};
 use crate::frame;
 use crate::many;
@@ -35,7 +36,7 @@ pub fn next_frame(bytes: &[u8], from: usize) -> Next
     if all <= from {
         return Next::Held(all);
     }
-    match find_frame(&bytes[0..0], &bytes[from..all], 0) {
+    match first_frame(&bytes[0..0], &bytes[from..all], 0) {
         Searched::More(i) => Next::Held(from + i),
         Searched::Frame(i, length, _) => Next::Frame {
             place: from + i,
@@ -51,9 +52,89 @@ pub(crate) enum Searched {
     Frame(usize, usize, usize),
 }
 
-// The first frame of the held bytes with the piece behind them: in mode 0 of RTCM, else of either kind. Each candidate's
-// sum is taken by itself, until those that failed are many for the way that was made; from there on a window decides.
+// The first frame of the held bytes with the piece behind them: in mode 0 of RTCM, else of either kind. A call for RTCM has
+// a search of its own, in which each step is called in one place, so that the compiler puts it there.
 pub(crate) fn find_frame(held: &[u8], piece: &[u8], mode: u32) -> Searched
+    requires { ⌜ length (now held) + length (now piece) < 2 ^ 64 ⌝ }
+    ensures { λ r. ⌜ r ≡ searched (feed (decide (framingOf mode)) (now (held .entry)) (now (piece .entry))) ⌝ }
+{
+    if mode == 0 {
+        if still_waits(held, piece) {
+            return Searched::More(0);
+        }
+        return first_rtcm(held, piece);
+    }
+    first_frame(held, piece, mode)
+}
+
+// Whether the bytes held start with a candidate of RTCM that the piece does not finish.
+fn still_waits(held: &[u8], piece: &[u8]) -> bool
+    requires { ⌜ length (now held) + length (now piece) < 2 ^ 64 ⌝ }
+    ensures { λ r. ⌜ (r ≡ true → Incomplete ≡ candidate rtcm (now (held .entry) ++ now (piece .entry))) ⌝ }
+{
+    if held.len() < 3 {
+        return false;
+    }
+    if held[0] != 0xD3 {
+        return false;
+    }
+    held.len() + piece.len() < many::data_length(held, 0) + 6
+}
+
+// The first frame of RTCM. Each candidate's sum is taken by itself, until those that failed are many for the way that was
+// made; from there on a window decides.
+fn first_rtcm(held: &[u8], piece: &[u8]) -> Searched
+    requires { ⌜ length (now held) + length (now piece) < 2 ^ 64 ⌝ }
+    ensures { λ r. ⌜ r ≡ searched (feed (decide (framingOf 0)) (now (held .entry)) (now (piece .entry))) ⌝ }
+{
+    let h = held.len();
+    let all = h + piece.len();
+    let mut i: usize = 0;
+    let mut end = h;
+    let mut failed: usize = 0;
+    while i < all {
+        if 64 + i / 64 < failed {
+            return many::find_on(held, piece, 0, i, end);
+        }
+        let j = next_rtcm(held, piece, i);
+        if all <= j {
+            return Searched::More(j);
+        }
+        match rtcm_at(held, piece, j) {
+            Candidate::Incomplete => {
+                return Searched::More(j);
+            }
+            Candidate::Good(n) => {
+                return Searched::Frame(j, n, most(end, j + n) - h);
+            }
+            Candidate::NotValid(n) => {
+                end = most(end, j + n);
+                failed += 1;
+                i = j + 1;
+            }
+        }
+    }
+    Searched::More(i)
+}
+
+// The place of the first D3 from place i on, or the end.
+fn next_rtcm(held: &[u8], piece: &[u8], i: usize) -> usize
+    requires { ⌜ (i ≤ length (now held) + length (now piece)) × (length (now held) + length (now piece) < 2 ^ 64) ⌝ }
+    ensures { λ r. ⌜ Start startsRtcm (now (held .entry) ++ now (piece .entry)) i r ⌝ }
+{
+    let h = held.len();
+    if h <= i {
+        return h + next_d3(piece, i - h);
+    }
+    let j = next_d3(held, i);
+    if j < h {
+        return j;
+    }
+    h + next_d3(piece, 0)
+}
+
+// The first frame in any mode, in the same way.
+fn first_frame(held: &[u8], piece: &[u8], mode: u32) -> Searched
     requires { ⌜ length (now held) + length (now piece) < 2 ^ 64 ⌝ }
     ensures { λ r. ⌜ r ≡ searched (feed (decide (framingOf mode)) (now (held .entry)) (now (piece .entry))) ⌝ }
 {
@@ -66,21 +147,21 @@ pub(crate) fn find_frame(held: &[u8], piece: &[u8], mode: u32) -> Searched
         if 64 + i / 64 < failed {
             return many::find_on(held, piece, mode, i, end);
         }
-        let j = next_start(held, piece, i, mode);
-        if all <= j {
-            return Searched::More(j);
+        let start = next_start(held, piece, i, mode);
+        if all <= start {
+            return Searched::More(start);
         }
-        match candidate_at(held, piece, j, mode) {
+        match candidate_at(held, piece, start, mode) {
             Candidate::Incomplete => {
-                return Searched::More(j);
+                return Searched::More(start);
             }
             Candidate::Good(n) => {
-                return Searched::Frame(j, n, most(end, j + n) - h);
+                return Searched::Frame(start, n, most(end, start + n) - h);
             }
             Candidate::NotValid(n) => {
-                end = most(end, j + n);
+                end = most(end, start + n);
                 failed += 1;
-                i = j + 1;
+                i = start + 1;
             }
         }
     }

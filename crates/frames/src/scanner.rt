@@ -107,7 +107,7 @@ pub fn feed(held: &mut [u8], scanner: Scanner, piece: &[u8], out: &mut [u8]) -> 
 
 // Does what a search found: what stands behind the bytes to skip is held; or the frame there is handed out, and what
 // stands behind it is held.
-pub(crate) fn carry_out(
+fn carry_out(
     held: &mut [u8],
     scanner: Scanner,
     piece: &[u8],
@@ -145,7 +145,7 @@ pub(crate) fn carry_out(
 }
 
 // The scanner once so many bytes more were taken and so many are held.
-fn onwards(scanner: Scanner, taken: usize, count: usize) -> Scanner
+pub(crate) fn onwards(scanner: Scanner, taken: usize, count: usize) -> Scanner
     requires { ⌜ scanner .taken + taken < 2 ^ 64 ⌝ }
     ensures { λ r. ⌜ known r ≡ onwards (known scanner) taken count ⌝ }
 {
@@ -157,7 +157,7 @@ fn onwards(scanner: Scanner, taken: usize, count: usize) -> Scanner
 }
 
 // The kind of a frame, by its first byte.
-fn kind_of(first: u8) -> Kind
+pub(crate) fn kind_of(first: u8) -> Kind
     ensures { λ r. ⌜ toldKind r ≡ kindAt first ⌝ }
 {
     if first == 0xB5 {
@@ -188,6 +188,9 @@ fn slide(held: &mut [u8], count: usize, piece: &[u8], i: usize) -> usize
     ensures { λ r. ⌜ (r ≡ count + length (now (piece .entry)) - i) × (now (held .exit) ≡ onto (drop i (take count (now (held .entry)) ++ now (piece .entry))) (now (held .entry))) ⌝ }
 {
     let n = count + piece.len() - i;
+    if n == 0 {
+        return 0;
+    }
     if i == 0 {
         frame::put_at(piece, held, count);
         return n;
@@ -203,7 +206,7 @@ fn slide(held: &mut [u8], count: usize, piece: &[u8], i: usize) -> usize
 }
 
 // Moves n bytes from place i on to the front.
-fn shift(held: &mut [u8], i: usize, n: usize)
+pub(crate) fn shift(held: &mut [u8], i: usize, n: usize)
     requires { ⌜ i + n ≤ length (now held) ⌝ }
     ensures { λ _. ⌜ now (held .exit) ≡ take n (drop i (now (held .entry))) ++ drop n (now (held .entry)) ⌝ }
 {

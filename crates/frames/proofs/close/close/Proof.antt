@@ -47,12 +47,12 @@ returns-6 c = refuses _ _ _ _ (small-output _ _ _ _ _ (omega arith) (omega arith
 
 carry-out-requires : tie.Need-carry-out-requires
 carry-out-requires c κs =
-    let w = c .before .before .before .before in
+    let w = c .before .before in
     (omega arith, omega arith, omega arith, omega arith, omega arith, end-can-hold (mode w) (area w) (scanner w) (out w) (fits w) _ (w .find-at-end .ensures))
 
 returns-7 : tie.Need-returns-7
 returns-7 c =
-    let w = c .before .before .before .before .before .before .before .before .before .before in
+    let w = c .before .before .before .before .before .before .before .before in
     end-closes (mode w) (area w) (scanner w) (out w) (fits w) _ (w .find-at-end .ensures) (c .before .before .before .before .before .carry-out .ensures) (c .ended .ensures)
 
 pub close-spec : {M : Type 1} → statement M
@@ -69,9 +69,6 @@ close-spec =
     (λ c. search needs)
     (λ c. search needs)
     (λ c κs. search needs)
-    (λ c. search needs)
-    (λ c. search needs)
-    (λ c. search needs)
     carry-out-requires
     (λ c κs. search needs)
     (λ c. search needs)

@@ -1,70 +1,80 @@
--- The loop has copied the first k bytes of the part. Assumes nothing.
-use Prim.Native.Nat.{_+_, _-_, _≤_}
-use mathlib.Core.Path.{_≡_, refl, ap, _∙_}
-use borrow.Author.Needs.{needs}
+-- What is written once more is what stands there. Assumes nothing.
+use mathlib.Core.Path.{ap, _∙_}
+use Prim.Native.Nat.{_+_, _-_, _*_, _/_}
 use native.Mathlib.Omega.{arith}
-use native.Mathlib.Numerals.{add-one}
-use lib.ListN.{length, getD, set, length-set}
-use lib.Seq.{paste, paste-zero, paste-suc, take-length}
+use lib.ListN.{length, take, drop}
+use Rattle.bits.specs.Onto.{over}
+use Rattle.frames.proofs.SeamLaws.{over-again}
+use borrow.Author.Needs.{needs}
 use Rattle.frames.proofs.frame.put_at.Statement.{statement}
 use Rattle.frames.proofs.frame.put_at.Tie as tie
 
-abbrev Inv-loop : tie.InvT-loop
-Inv-loop part out₀ i k₀ out k = (k ≤ length part) × (out ≡ paste out₀ i part k) × (length out ≡ length out₀)
+put-each-requires : tie.Need-put-each-requires
+put-each-requires c κs = search needs
 
-abbrev μ-loop : tie.MeasureT-loop
-μ-loop part out₀ i k₀ out k = length part - k
-
-loop-holds : tie.Need-loop-holds Inv-loop μ-loop
-loop-holds c = let a = c .args in (omega arith, paste-zero (a .out .now) (a .i) (a .part .now), refl)
-
-shared-slice-read-out : tie.Need-shared-slice-read-out Inv-loop μ-loop
-shared-slice-read-out c = search needs
-
-add-out : tie.Need-add-out Inv-loop μ-loop
-add-out c = search needs
-
-slice-write-out : tie.Need-slice-write-out Inv-loop μ-loop
-slice-write-out c = search needs
-
-add-k : tie.Need-add-k Inv-loop μ-loop
-add-k c = search needs
-
-loop-less : tie.Need-loop-less Inv-loop μ-loop
-loop-less c = search needs
-
-loop-again : tie.Need-loop-again Inv-loop μ-loop
-loop-again c =
-    let l = c .before .before in
-    let a = l .before .args in (
-      omega arith,
-      ap (λ x. set x (a .i + l .loop .k) (getD (a .part .now) (l .loop .k) 0)) (l .loop .inv .1)
-          ∙ paste-suc (a .out .now) (a .i) (a .part .now) (l .loop .k) 0 (omega arith) (omega arith) ∙ rw add-one,
-      rw length-set (l .loop .inv .2),
-    )
-
-same-length : tie.Need-same-length Inv-loop μ-loop
+same-length : tie.Need-same-length
 same-length c = search needs
 
-returns : tie.Need-returns Inv-loop μ-loop
-returns c =
-    let l = c .before in
-    let a = l .before .args in
-    let e : l .loop .k ≡ length (a .part .now) = omega arith in
-    l .loop .inv .1 ∙ rw (e, take-length)
+returns : tie.Need-returns
+returns c = search needs
+
+mul-put-each : tie.Need-mul-put-each
+mul-put-each c = search needs
+
+sub-put-each : tie.Need-sub-put-each
+sub-put-each c = search needs
+
+part-put-each-start : tie.Need-part-put-each-start
+part-put-each-start c = search needs
+
+part-put-each-end : tie.Need-part-put-each-end
+part-put-each-end c = search needs
+
+put-each-requires-2 : tie.Need-put-each-requires-2
+put-each-requires-2 c κs = search needs
+
+sub-put-each-2 : tie.Need-sub-put-each-2
+sub-put-each-2 c = search needs
+
+part-put-each-start-2 : tie.Need-part-put-each-start-2
+part-put-each-start-2 c = search needs
+
+part-put-each-end-2 : tie.Need-part-put-each-end-2
+part-put-each-end-2 c = search needs
+
+add-put-each : tie.Need-add-put-each
+add-put-each c = search needs
+
+put-each-requires-3 : tie.Need-put-each-requires-3
+put-each-requires-3 c κs = search needs
+
+same-length-2 : tie.Need-same-length-2
+same-length-2 c = search needs
+
+returns-2 : tie.Need-returns-2
+returns-2 c =
+    let a = c .before .before .before .before .before .before .before .before .before .before .before .before .before .args in
+    let n = length (a .part .now) in
+    c .before .before .put-each3 .ensures
+    ∙ ap (over (a .i + (n - 32)) (take (n - (n - 32)) (drop (n - 32) (a .part .now)))) (c .before .before .before .before .before .before .before .put-each2 .ensures)
+    ∙ over-again (a .part .now) (a .out .now) (a .i) (n / 32 * 32) (n - 32) (omega arith) (omega arith) (omega arith)
 
 pub put-at-spec : {M : Type 1} → statement M
 put-at-spec =
     tie.close
     (tie.spec
-    Inv-loop
-    μ-loop
-    loop-holds
-    shared-slice-read-out
-    add-out
-    slice-write-out
-    add-k
-    loop-less
-    loop-again
+    put-each-requires
     same-length
-    returns)
+    returns
+    mul-put-each
+    sub-put-each
+    part-put-each-start
+    part-put-each-end
+    put-each-requires-2
+    sub-put-each-2
+    part-put-each-start-2
+    part-put-each-end-2
+    add-put-each
+    put-each-requires-3
+    same-length-2
+    returns-2)
