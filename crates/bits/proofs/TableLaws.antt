@@ -1,16 +1,17 @@
--- The rule of the checksum's table, and a byte of the checksum by it. Assumes nothing.
+-- The rule of the checksum's table, a byte of the checksum by it, and that 24 bits of an earlier sum count. Assumes nothing.
 use mathlib.Core.Path.{_≡_, sym, ap, ap₂, _∙_}
 use mathlib.Core.Bool.{Bool}
+use mathlib.Core.List.{List, [], _∷_}
 use Prim.Native.Nat.{ℕ, zero, suc, _+_, _*_, _/_, _%_, _^_, _<_}
-use native.Mathlib.Nat.{mod-lt, mod-mod}
+use native.Mathlib.Nat.{mod-lt, mod-mod, mod-eq-of-lt}
 use native.Mathlib.Omega.{arith}
 use lib.Dec.{eqb, eqb→eq}
-use lib.ListN.{getD}
-use lib.Pow.{pow-pos, field, mod-pow-add}
+use lib.ListN.{length, getD, drop}
+use lib.Pow.{pow-pos, field, mod-pow-add, mod-mod-pow}
 use lib.Bits.{bitXor, xor-shifted, xor-mod, xor-lt, xor-comm, xor-self, xor-zero-r}
 use Rattle.crctable.specs.Table.{table}
-use Rattle.bits.specs.Crc.{crcBit, crcBits, crcByte}
-use Rattle.bits.proofs.CrcLaws.{bits-linear, bits-shift}
+use Rattle.bits.specs.Crc.{crcBit, crcBits, crcByte, crcFrom}
+use Rattle.bits.proofs.CrcLaws.{bits-linear, bits-shift, byte-below, from-more}
 use Rattle.bits.proofs.XorLaws.{xor-assoc, xor-shl}
 use Rattle.bits.proofs.EveryPlace.{at}
 
@@ -61,11 +62,50 @@ parted c b h =
     ∙ ap (λ (n : ℕ). bitXor n (c % 2 ^ 16)) (xor-comm (b * 2 ^ 16) (c / 2 ^ 16 % 256 * 2 ^ 16) ∙ sym (xor-shl (c / 2 ^ 16 % 256) b 16))
 
 -- the table's number for the byte that falls out, and the rest moved up
-pub by-table : (c b : ℕ) → b < 256 → bitXor (getD table (bitXor (bitXor (c / 2 ^ 16 % 256) b) 128) 0) (c % 2 ^ 16 * 256) ≡ crcByte c b
+exact : (c b : ℕ) → b < 256 → bitXor (getD table (bitXor (bitXor (c / 2 ^ 16 % 256) b) 128) 0) (c % 2 ^ 16 * 256) ≡ crcByte c b
 unfolding crcByte
-by-table c b h =
+exact c b h =
     let i = bitXor (c / 2 ^ 16 % 256) b in
     ap₂ bitXor (number i (xor-lt 8 (c / 2 ^ 16 % 256) b (mod-lt (c / 2 ^ 16) (pow-pos 8)) h)) (sym (bits-shift 8 (c % 2 ^ 16) (omega arith)))
     ∙ sym (bits-linear 8 (i * 2 ^ 16) (c % 2 ^ 16))
     ∙ ap (crcBits 8) (sym (parted c b h))
     ∙ sym (bits-mod 7 (bitXor (b * 2 ^ 16) c))
+
+-- of a sum moved up within 32 bits, the low 24 are the rest moved up
+moved : (c : ℕ) → c * 2 ^ 8 % 2 ^ 32 % 2 ^ 24 ≡ c % 2 ^ 16 * 256 % 2 ^ 24
+moved c = mod-mod-pow (c * 2 ^ 8) 8 24 ∙ omega arith
+
+-- the same in the low 24 bits, where all of the sum is moved up
+pub by-table : (c b : ℕ) → b < 256 → bitXor (getD table (bitXor (bitXor (c / 2 ^ 16 % 256) b) 128) 0) (c * 2 ^ 8 % 2 ^ 32) % 2 ^ 24 ≡ crcByte c b
+by-table c b h =
+    let e = getD table (bitXor (bitXor (c / 2 ^ 16 % 256) b) 128) 0 in
+    xor-mod e (c * 2 ^ 8 % 2 ^ 32) 24
+    ∙ ap (bitXor (e % 2 ^ 24)) (moved c)
+    ∙ sym (xor-mod e (c % 2 ^ 16 * 256) 24)
+    ∙ ap (λ (n : ℕ). n % 2 ^ 24) (exact c b h)
+    ∙ mod-eq-of-lt (byte-below c b)
+
+-- ---- a sum with more than 24 bits
+
+byte-mod : (c b : ℕ) → crcByte (c % 2 ^ 24) b ≡ crcByte c b
+unfolding crcByte
+byte-mod c b =
+    let x = b * 2 ^ 16 in
+    bits-mod 7 (bitXor x (c % 2 ^ 24))
+    ∙ ap (crcBits 8)
+    (xor-mod x (c % 2 ^ 24) 24
+    ∙ ap (bitXor (x % 2 ^ 24)) (mod-mod c (2 ^ 24))
+    ∙ sym (xor-mod x c 24))
+    ∙ sym (bits-mod 7 (bitXor x c))
+
+-- one byte more, from a place of the list on, where the low 24 bits are the sum
+pub more : (s : List ℕ) (i c d : ℕ) → i < length s → d % 2 ^ 24 ≡ crcByte c (getD s i 0)
+    → crcFrom (d % 2 ^ 24) (drop (i + 1) s) ≡ crcFrom (c % 2 ^ 24) (drop i s)
+more s i c d h e =
+    ap (λ (n : ℕ). crcFrom n (drop (i + 1) s)) (e ∙ sym (byte-mod c (getD s i 0))) ∙ sym (from-more s i (c % 2 ^ 24) h)
+
+-- over one byte or more, what the sum has above 24 bits does not count
+pub from-mod : (s : List ℕ) (c : ℕ) → 0 < length s → crcFrom (c % 2 ^ 24) s ≡ crcFrom c s
+unfolding crcFrom
+from-mod [] c h = absurd (omega arith)
+from-mod (b ∷ s) c h = ap (λ (n : ℕ). crcFrom n s) (byte-mod c b)

@@ -1,16 +1,17 @@
--- The checksum so far, continued over what is left, is the whole. Assumes nothing.
+-- The low 24 bits of the checksum so far, continued over what is left, are the whole. Assumes nothing.
 use mathlib.Core.Path.{_≡_, refl, sym, _∙_}
-use Prim.Native.Nat.{_≤_, _-_}
+use Prim.Native.Nat.{_-_, _%_, _^_, _≤_}
 use native.Mathlib.Omega.{arith}
 use lib.ListN.{length, drop}
 use borrow.Author.Needs.{needs}
 use Rattle.bits.specs.Crc.{crcFrom}
-use Rattle.bits.proofs.CrcLaws.{from-more, from-end}
+use Rattle.bits.proofs.CrcLaws.{from-end}
+use Rattle.bits.proofs.TableLaws.{more}
 use Rattle.bits.proofs.crc.by_table.Statement.{statement}
 use Rattle.bits.proofs.crc.by_table.Tie as tie
 
 abbrev Inv-loop : tie.InvT-loop
-Inv-loop sum bytes c₀ i₀ c i = (i ≤ length bytes) × (crcFrom c (drop i bytes) ≡ crcFrom sum bytes)
+Inv-loop sum bytes c₀ i₀ c i = (i ≤ length bytes) × (crcFrom (c % 2 ^ 24) (drop i bytes) ≡ crcFrom (sum % 2 ^ 24) bytes)
 
 abbrev μ-loop : tie.MeasureT-loop
 μ-loop sum bytes c₀ i₀ c i = length bytes - i
@@ -34,12 +35,12 @@ loop-again : tie.Need-loop-again Inv-loop μ-loop
 loop-again c =
     let l = c .before .before .before .loop in
     let s = c .before .before .before .before .before .args .bytes .now in
-    (omega arith, rw (c .crc-byte .ensures) (sym (from-more s (l .i) (l .c) (omega arith)) ∙ l .inv .1))
+    (omega arith, more s (l .i) (l .c) _ (omega arith) (c .crc-byte .ensures) ∙ l .inv .1)
 
 returns : tie.Need-returns Inv-loop μ-loop
 returns c =
     let l = c .before .loop in
-    sym (from-end (c .before .before .before .args .bytes .now) (l .i) (l .c) (omega arith)) ∙ l .inv .1
+    sym (from-end (c .before .before .before .args .bytes .now) (l .i) (l .c % 2 ^ 24) (omega arith)) ∙ l .inv .1
 
 pub by-table-spec : {M : Type 1} → statement M
 by-table-spec =

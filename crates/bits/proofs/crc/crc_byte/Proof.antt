@@ -11,13 +11,10 @@ use Rattle.bits.proofs.crc.crc_byte.Tie as tie
 entry-requires : tie.Need-entry-requires
 entry-requires c κs = search needs
 
-mul-result : tie.Need-mul-result
-mul-result c = search needs
-
 returns : tie.Need-returns
 returns c =
     let a = c .before .args in
-    ap (λ (e : ℕ). bitXor e (a .c % 2 ^ 16 * 256)) (c .entry .ensures) ∙ by-table (a .c) (a .b) (omega arith)
+    ap (λ (e : ℕ). bitXor e (a .c * 2 ^ 8 % 2 ^ 32) % 2 ^ 24) (c .entry .ensures) ∙ by-table (a .c) (a .b) (omega arith)
 
 pub crc-byte-spec : {M : Type 1} → statement M
-crc-byte-spec = tie.close (tie.spec entry-requires mul-result returns)
+crc-byte-spec = tie.close (tie.spec entry-requires returns)
