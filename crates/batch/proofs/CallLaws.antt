@@ -1,6 +1,6 @@
 -- What a call refuses and accepts: an equation for each case; and that a refused call writes nothing. Assumes nothing.
-use mathlib.Core.Path.{_≡_, refl, ap, _∙_, subst}
-use mathlib.Core.Bool.{Bool, true, false, cond, not}
+use mathlib.Core.Path.{_≡_, refl, _∙_, subst}
+use mathlib.Core.Bool.{Bool, cond, not}
 use mathlib.Core.List.{List, [], _∷_, _++_}
 use Prim.Native.Nat.{ℕ, zero, suc, _+_, _-_, _^_, _≤_, _<_}
 use native.Mathlib.Nat.{sub-zero}
@@ -8,10 +8,10 @@ use native.Mathlib.Omega.{arith}
 use lib.ListN.{length, take, drop}
 use lib.Dec.{ltb, eqb}
 use borrow.Author.Tests.{ltb-false, eqb-true, eqb-false, not-false, lt-ltb, le-ltb, eq-eqb, ne-eqb}
-use Rattle.bits.specs.Told.{Told, Accepted, Refused, size, state, room}
+use Rattle.bits.specs.Told.{Told, Accepted, size, state, room}
 use Rattle.bits.specs.Outcome.{Outcome, outcome, refusing}
 use Rattle.bits.specs.Onto.{onto}
-use Rattle.bits.proofs.OutcomeLaws.{Keeps, accepted-keeps, refusing-keeps}
+use Rattle.bits.proofs.OutcomeLaws.{Keeps, accepted-keeps, refusing-keeps, not-refused}
 use Rattle.frames.specs.Framing.{Framing, decide}
 use Rattle.frames.specs.Scan.{scan}
 use Rattle.frames.specs.Rtcm.{Kind}
@@ -34,14 +34,6 @@ pub record FitsAll (a : Areas) (x : Scanner) (p : List ℕ) : Type 0 where
   pub lengths : length (a .lengths) ≡ length (a .starts)
   pub kinds : length (a .kinds) ≡ length (a .starts)
   pub some : 1 ≤ length (a .starts)
-
-module _ {A B S : Type 0} (before : S) (onward : B → Outcome A S) (y : Outcome A S) (r : A) (ans : y .answer ≡ Accepted r) where
-  -- what was accepted was not refused before
-  not-refused : (c : Bool) (k : ℕ) (cs : List ℕ) (x : Told B) → refusing before (cond c (Refused k cs) x) onward ≡ y → (c ≡ false) × (refusing before x onward ≡ y)
-  not-refused true k cs x e =
-      let u : _≡_ {A = Told A} (Refused k cs) (Accepted r) = ap (λ z. z .answer) e ∙ ans in
-      let z : _≡_ {A = ℕ} 0 1 = cc in absurd (omega arith)
-  not-refused false k cs x e = (refl, e)
 
 positive : (n : ℕ) → (n ≡ 0 → ⊥) → 1 ≤ n
 positive zero h = absurd (h refl)

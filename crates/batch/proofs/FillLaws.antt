@@ -11,7 +11,7 @@ use lib.Dec.{leb, ltb}
 use borrow.Author.Tests.{leb-true, leb-false}
 use Rattle.bits.specs.Onto.{onto, over}
 use Rattle.bits.proofs.OntoLaws.{over-zero}
-use Rattle.frames.specs.Scan.{Decision, Skip, Take, Wait, Item, Skipped, Framed, Scanned, holding, step, scanPast, scan, bytesOf, handed, framed}
+use Rattle.frames.specs.Scan.{Decision, Skip, Take, Wait, Item, Skipped, Framed, Scanned, holding, step, scanPast, scan, bytesOf, handed}
 use Rattle.frames.specs.Framing.{decide}
 use Rattle.frames.specs.Rtcm.{Why, Kind}
 use Rattle.frames.specs.Modes.{framingOf}

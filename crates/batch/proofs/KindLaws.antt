@@ -5,28 +5,20 @@ use mathlib.Core.List.{List, [], _∷_}
 use Prim.Native.Nat.{ℕ, zero, suc, _≤_}
 use native.Mathlib.Nat.{not-suc-le-zero, add-zero}
 use native.Mathlib.Omega.{arith}
-use lib.ListN.{length, getD, drop}
+use lib.ListN.{getD, drop}
 use lib.Seq.{getD-drop}
-use lib.Dec.{leb, eqb}
+use lib.Dec.{eqb}
 use borrow.Author.Tests.{ne-eqb}
-use Rattle.frames.specs.Scan.{Take, Wait}
+use Rattle.frames.specs.Scan.{Take}
 use Rattle.frames.specs.Framing.{Framing, Lawful, decide}
 use Rattle.frames.specs.Rtcm.{Kind, Rtcm, Ubx}
 use Rattle.frames.specs.Modes.{framingOf}
 use Rattle.frames.specs.Steps.{kindAt}
 use Rattle.frames.proofs.FramingLaws.{decides}
 use Rattle.frames.proofs.ModeLaws.{lawful}
-use Rattle.frames.proofs.KindLaws.{at-front}
+use Rattle.frames.proofs.KindLaws.{was-verdict, at-front}
 use Rattle.batch.specs.Batch.{kindNumber}
 use Rattle.batch.specs.Steps.{kindNumberAt}
-
--- what was taken was the verdict
-was-verdict : {W K : Type 0} (F : Framing W K) (s : List ℕ) (k : K) (n : ℕ) → decide F s ≡ Take k n → F .verdict s ≡ Take k n
-was-verdict F s k n e = go (leb (F .need s) (length s)) e
-  where
-    go : (b : Bool) → cond b (F .verdict s) Wait ≡ Take k n → F .verdict s ≡ Take k n
-    go true x = x
-    go false x = let z : _≡_ {A = ℕ} 0 1 = cc in absurd (omega arith)
 
 -- A FRAME has at most 1,029 bytes.
 pub not-longer : {W K : Type 0} (F : Framing W K) → Lawful F → (s : List ℕ) (k : K) (n : ℕ) → decide F s ≡ Take k n → n ≤ 1029

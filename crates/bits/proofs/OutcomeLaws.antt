@@ -27,6 +27,14 @@ module _ {A S : Type 0} (before : S) where
   pub writing-keeps : (told : Told A) (after : A → S) → Keeps before (refusing before told (λ a. outcome (Accepted a) (after a)))
   writing-keeps told after = refusing-keeps told (λ a. outcome (Accepted a) (after a)) (λ a. accepted-keeps a (after a))
 
+-- what was accepted was not refused before
+module _ {A B S : Type 0} (before : S) (onward : B → Outcome A S) (y : Outcome A S) (r : A) (ans : y .answer ≡ Accepted r) where
+  pub not-refused : (c : Bool) (k : ℕ) (cs : List ℕ) (x : Told B) → refusing before (cond c (Refused k cs) x) onward ≡ y → (c ≡ false) × (refusing before x onward ≡ y)
+  not-refused true k cs x e =
+      let u : _≡_ {A = Told A} (Refused k cs) (Accepted r) = ap (λ z. z .answer) e ∙ ans in
+      let z : _≡_ {A = ℕ} 0 1 = cc in absurd (omega arith)
+  not-refused false k cs x e = (refl, e)
+
 -- two outcomes of the code that a statement allows are equal: their answers, and the areas they leave
 pub only-outcome : {E A S : Type 0} (told : E → Told A) → OneToOne told → (d : Outcome A S) {x y : E} {s t : S}
     → outcome (told x) s ≡ d → outcome (told y) t ≡ d → (x ≡ y) × (s ≡ t)

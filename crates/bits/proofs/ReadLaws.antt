@@ -82,6 +82,13 @@ module _ {A : Type 0} (meaning : ℕ → A) (s : List ℕ) (p w : ℕ) where
         go (yes h) = h
         go (no h) = let d = reads-value (omega arith) in let z : _≡_ {A = ℕ} 0 1 = cc in absurd (omega arith)
 
+    -- it is refused neither with Size nor with Width
+    pub no-size : size ≡ readBy meaning s p w → ⊥
+    no-size e = let d = e ∙ refused-short (sym e) in let z : _≡_ {A = ℕ} 9 1 = cc in omega arith
+
+    pub no-width : width ≡ readBy meaning s p w → ⊥
+    no-width e = let d = e ∙ refused-short (sym e) in let z : _≡_ {A = ℕ} 2 1 = cc in omega arith
+
   -- what an accepted field tells
   pub record Read (r : Reading A) : Type 0 where
     pub few : length s ≤ 1023
@@ -156,3 +163,10 @@ value-tells s p w {v} {q} e =
     let t = read-tells (λ x. x) s p w (sym e) in
     let d : v ≡ field s p w = ap (λ r. r .value) (t .is) in
     (t .low, t .high, rw d (field-lt s p w))
+
+-- a number that is read fits its width, and its field lies within the data
+pub taken : (s : List ℕ) (p w : ℕ) {v q : ℕ} → readUnsigned s p w ≡ Accepted (reading v q) → (v < 2 ^ w) × (q ≡ p + w) × (q ≤ length s * 8)
+taken s p w {v} {q} e =
+    let t = read-tells (λ x. x) s p w e in
+    let d : q ≡ p + w = ap (λ (r : Reading ℕ). r .next) (t .is) in
+    (value-tells s p w (sym e) .2, d, omega (arith, d, t .within))

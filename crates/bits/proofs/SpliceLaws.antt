@@ -2,7 +2,7 @@
 use mathlib.Core.Path.{_≡_, sym, ap, ap₂, _∙_}
 use mathlib.Core.List.{List}
 use Prim.Native.Nat.{ℕ, zero, suc, _+_, _-_, _*_, _/_, _%_, _^_, _≤_, _<_}
-use native.Mathlib.Nat.{mod-lt, add-comm, add-zero, zero-add, add-suc, add-assoc, add-mul, mul-assoc, zero-mul, mod-one, div-one, mod-eq-of-lt, div-mul-le-self}
+use native.Mathlib.Nat.{mod-lt, add-comm, add-zero, zero-add, add-suc, add-assoc, add-mul, mul-assoc, zero-mul, mod-one, div-one}
 use native.Mathlib.Numerals.{add-one, one-add}
 use native.Mathlib.Omega.{arith}
 use lib.ListN.{length, getD, set}

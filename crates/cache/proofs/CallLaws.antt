@@ -7,9 +7,8 @@ use Prim.Native.Nat.{_≤_, _<_}
 use lib.ListN.{length, set, length-set}
 use lib.Dec.{ltb}
 use borrow.Author.Tests.{ltb-true, lt-ltb, le-ltb}
-use Rattle.bits.specs.Told.{Accepted}
+use Rattle.bits.specs.Told.{Accepted, full, absent}
 use Rattle.bits.specs.Outcome.{outcome}
-use Rattle.bits.specs.Told.{full, absent}
 use Rattle.cache.specs.Cache.{Key, Value, same, first, Call, Store, Remove, Lookup, Answer, tell, storeAt, removeAt}
 use Rattle.cache.proofs.Slots.{Out, Slot, free, held, isFree, has, find, act}
 use Rattle.cache.proofs.FindLaws.{Once, place-none, place-some, find-replaced, once-replaced, find-filled, once-filled, find-freed, once-freed}

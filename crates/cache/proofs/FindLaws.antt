@@ -7,8 +7,7 @@ use Prim.Native.Nat.{ℕ, suc, _≤_, _<_}
 use native.Mathlib.Omega.{arith}
 use lib.ListN.{length, set}
 use Rattle.cache.specs.Cache.{Key, Value, same, first}
-use Rattle.cache.proofs.Slots.{Slot, free, held, isFree, has, find}
-use Rattle.cache.proofs.Slots.{NoneHeld}
+use Rattle.cache.proofs.Slots.{Slot, free, held, isFree, has, find, NoneHeld}
 use Rattle.cache.proofs.KeyLaws.{same-tells, same-swap, same-left, apart, either-order, again}
 
 some-none : {A : Type 0} (v : A) → some v ≡ none → ⊥

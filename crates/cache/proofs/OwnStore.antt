@@ -7,13 +7,11 @@ use Prim.Native.Nat.{ℕ}
 use lib.ListN.{length}
 use lib.Dec.{ltb, eqb}
 use borrow.Author.Tests.{eqb-true, eqb-false}
-use Rattle.bits.specs.Told.{range, size}
+use Rattle.bits.specs.Told.{range, size, full}
 use Rattle.bits.specs.Outcome.{outcome}
-use Rattle.bits.specs.Told.{full}
 use Rattle.cache.specs.Cache.{Key, Value, providerOf, Call, Store, Remove, Lookup, caller, Answer, fits}
-use Rattle.cache.proofs.Slots.{Out, Slot, find, act, step}
+use Rattle.cache.proofs.Slots.{Out, Slot, find, act, step, answersTo, NoneHeld}
 use Rattle.cache.specs.Runs.{callsOf, NoFull}
-use Rattle.cache.proofs.Slots.{answersTo, NoneHeld}
 use Rattle.cache.proofs.KeyLaws.{foreign}
 use Rattle.cache.proofs.FindLaws.{Once, free-none, free-once}
 use Rattle.cache.proofs.CallLaws.{wanted, changed, Effect, stuck, worked, act-effect, act-once, act-length}

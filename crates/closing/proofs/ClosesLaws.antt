@@ -42,7 +42,7 @@ module _ {W K : Type 0} (d e : List ℕ → Decision W K) (same : (x : ℕ) (xs 
 
 -- what was told of a call that is fed nothing, from what a closing call tells
 module _ {K : Type 0} where
-  is-done : (r : Told (FedAnswer K)) (s : ℕ) (y : Scanner) → closedBy r ≡ Accepted (Done s y) → (t : ℕ) × (z : Scanner) × (r ≡ Accepted (call.More t s z)) × (afresh z ≡ y)
+  pub is-done : (r : Told (FedAnswer K)) (s : ℕ) (y : Scanner) → closedBy r ≡ Accepted (Done s y) → (t : ℕ) × (z : Scanner) × (r ≡ Accepted (call.More t s z)) × (afresh z ≡ y)
   is-done (Accepted (call.More t u z)) s y e =
       let us : u ≡ s = cc in
       let zy : afresh z ≡ y = cc in
@@ -50,7 +50,7 @@ module _ {K : Type 0} where
   is-done (Accepted (call.Frame l t u i k z)) s y e = let z : _≡_ {A = ℕ} 0 1 = cc in absurd (omega arith)
   is-done (Refused n cs) s y e = let z : _≡_ {A = ℕ} 0 1 = cc in absurd (omega arith)
 
-  is-found : (r : Told (FedAnswer K)) (l s i : ℕ) (k : K) (y : Scanner) → closedBy r ≡ Accepted (Frame l s i k y) → (t : ℕ) × (r ≡ Accepted (call.Frame l t s i k y))
+  pub is-found : (r : Told (FedAnswer K)) (l s i : ℕ) (k : K) (y : Scanner) → closedBy r ≡ Accepted (Frame l s i k y) → (t : ℕ) × (r ≡ Accepted (call.Frame l t s i k y))
   is-found (Accepted (call.More t u z)) l s i k y e = let z : _≡_ {A = ℕ} 0 1 = cc in absurd (omega arith)
   is-found (Accepted (call.Frame m t u j d z)) l s i k y e =
       let ml : m ≡ l = cc in

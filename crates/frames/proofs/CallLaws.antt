@@ -1,15 +1,14 @@
 -- What a call refuses and accepts: an equation for each case. Assumes nothing.
-use mathlib.Core.Path.{_≡_, refl, ap, _∙_}
-use mathlib.Core.Bool.{Bool, true, false, cond, not}
+use mathlib.Core.Path.{_≡_, refl}
+use mathlib.Core.Bool.{Bool, false, cond, not}
 use mathlib.Core.List.{List, [], _∷_}
 use Prim.Native.Nat.{ℕ, _+_, _^_, _≤_, _<_}
-use native.Mathlib.Omega.{arith}
 use lib.ListN.{length, take}
 use lib.Dec.{ltb, eqb}
 use borrow.Author.Tests.{ltb-false, eqb-true, not-false, lt-ltb, le-ltb, eq-eqb, ne-eqb}
-use Rattle.bits.specs.Told.{Told, Accepted, Refused, size, state, room}
+use Rattle.bits.specs.Told.{Told, Accepted, size, state, room}
 use Rattle.bits.specs.Outcome.{outcome, refusing}
-use Rattle.bits.proofs.OutcomeLaws.{Keeps, accepted-keeps, refusing-keeps}
+use Rattle.bits.proofs.OutcomeLaws.{Keeps, accepted-keeps, refusing-keeps, not-refused}
 use Rattle.frames.specs.Framing.{Framing, decide}
 use Rattle.frames.specs.Feed as fed
 use Rattle.frames.specs.Feed.{Fed, feed}
@@ -27,30 +26,23 @@ pub record Fits (a : List ℕ) (x : Scanner) (p o : List ℕ) : Type 0 where
   pub output : 1029 ≤ length o
 
 module _ {K : Type 0} (areas : List ℕ × List ℕ) (onward : List ℕ → FedOutcome K) (y : FedOutcome K) (r : FedAnswer K) (ans : y .answer ≡ Accepted r) where
-  -- what was accepted was not refused before
-  not-refused : (c : Bool) (k : ℕ) (cs : List ℕ) (x : Told (List ℕ)) → refusing areas (cond c (Refused k cs) x) onward ≡ y → (c ≡ false) × (refusing areas x onward ≡ y)
-  not-refused true k cs x e =
-      let u : _≡_ {A = Told (FedAnswer K)} (Refused k cs) (Accepted r) = ap (λ z. z .answer) e ∙ ans in
-      let z : _≡_ {A = ℕ} 0 1 = cc in absurd (omega arith)
-  not-refused false k cs x e = (refl, e)
-
   -- State, on any of its four grounds
   no-state : (c d e f : Bool) (x : Told (List ℕ)) → refusing areas (cond c state (cond d state (cond e state (cond f state x)))) onward ≡ y
       → (c ≡ false) × (d ≡ false) × (e ≡ false) × (f ≡ false) × (refusing areas x onward ≡ y)
   no-state c d e f x h =
-      let s = not-refused c 11 [] (cond d state (cond e state (cond f state x))) h in
-      let t = not-refused d 11 [] (cond e state (cond f state x)) (s .1) in
-      let u = not-refused e 11 [] (cond f state x) (t .1) in
-      let v = not-refused f 11 [] x (u .1) in
+      let s = not-refused areas onward y r ans c 11 [] (cond d state (cond e state (cond f state x))) h in
+      let t = not-refused areas onward y r ans d 11 [] (cond e state (cond f state x)) (s .1) in
+      let u = not-refused areas onward y r ans e 11 [] (cond f state x) (t .1) in
+      let v = not-refused areas onward y r ans f 11 [] x (u .1) in
       (s .0, t .0, u .0, v .0, v .1)
 
   -- Size, on either ground, and Room
   no-size : (c d e : Bool) (x : Told (List ℕ)) → refusing areas (cond c size (cond d size (cond e (room 1029) x))) onward ≡ y
       → (c ≡ false) × (d ≡ false) × (e ≡ false) × (refusing areas x onward ≡ y)
   no-size c d e x h =
-      let s = not-refused c 9 [] (cond d size (cond e (room 1029) x)) h in
-      let t = not-refused d 9 [] (cond e (room 1029) x) (s .1) in
-      let u = not-refused e 8 (1029 ∷ []) x (t .1) in
+      let s = not-refused areas onward y r ans c 9 [] (cond d size (cond e (room 1029) x)) h in
+      let t = not-refused areas onward y r ans d 9 [] (cond e (room 1029) x) (s .1) in
+      let u = not-refused areas onward y r ans e 8 (1029 ∷ []) x (t .1) in
       (s .0, t .0, u .0, u .1)
 
 module _ {W K : Type 0} (F : Framing W K) (a : List ℕ) (x : Scanner) (p o : List ℕ) where

@@ -13,6 +13,7 @@ use borrow.Author.Tests.{le-leb, lt-leb, leb-true, leb-false, eq-eqb, ne-eqb}
 use Rattle.bits.specs.Field.{field}
 use Rattle.bits.specs.Crc.{crc}
 use Rattle.bits.proofs.PartLaws.{field-drop}
+use Rattle.bits.proofs.ThreeLaws.{three-field}
 use Rattle.frames.specs.Scan.{Decision, Skip, Take, Wait}
 use Rattle.frames.specs.Framing.{Framing, Lawful}
 use Rattle.frames.specs.Frame.{dataLength, ownSum, sentSum}
@@ -20,7 +21,7 @@ use Rattle.frames.specs.Rtcm.{rtcm}
 use Rattle.frames.specs.Steps.{Start, candidate, candidateBy}
 use Rattle.frames.specs.declared.scan.Candidate.{Candidate}
 use Rattle.frames.specs.declared.scan.Candidate.the-variants.{Incomplete, NotValid, Good}
-use Rattle.frames.proofs.FrameLaws.{length-at, three-field}
+use Rattle.frames.proofs.FrameLaws.{length-at}
 use Rattle.frames.proofs.AppendLaws.{length-stays}
 use Rattle.frames.proofs.SeamLaws.{at-left, at-right}
 

@@ -16,15 +16,6 @@ use Rattle.frames.specs.Frame.{dataLength, sentSum, ownSum, numberOf, Wh
 
 -- ---- fields by bytes
 
--- three bytes, highest first, are a field of 24 bits
-pub three-field : (s : List ℕ) (i : ℕ)
-    → field s (i * 8) 24 ≡ (getD s i 0 % 2 ^ 8 * 2 ^ 8 + getD s (i + 1) 0 % 2 ^ 8) * 2 ^ 8 + getD s (i + 2) 0 % 2 ^ 8
-three-field s i =
-    field-split s (i * 8) 16 8
-    ∙ ap₂ (λ (x y : ℕ). x * 2 ^ 8 + y)
-    (field-split s (i * 8) 8 8 ∙ ap₂ (λ (x y : ℕ). x * 2 ^ 8 + y) (byte-field s (i * 8) i refl) (byte-field s (i * 8 + 8) (i + 1) (omega arith)))
-    (byte-field s (i * 8 + 16) (i + 2) (omega arith))
-
 -- the length is the low ten bits of the first three bytes
 pub length-low : (s : List ℕ) → field s 0 24 % 2 ^ 10 ≡ dataLength s
 length-low s = ap (λ (x : ℕ). x % 2 ^ 10) (field-split s 0 14 10) ∙ low (field s 0 14) 10 (field-lt s 14 10)

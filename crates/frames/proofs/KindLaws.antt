@@ -34,7 +34,7 @@ pub other-kind : (x : ℕ) → (x ≡ 0xB5 → ⊥) → kindAt x ≡ Rtcm
 other-kind x n = rw (ne-eqb x 0xB5 n)
 
 -- what was taken was the verdict
-was-verdict : {W K : Type 0} (F : Framing W K) (s : List ℕ) (k : K) (n : ℕ) → decide F s ≡ Take k n → F .verdict s ≡ Take k n
+pub was-verdict : {W K : Type 0} (F : Framing W K) (s : List ℕ) (k : K) (n : ℕ) → decide F s ≡ Take k n → F .verdict s ≡ Take k n
 was-verdict F s k n e = go (leb (F .need s) (length s)) e
   where
     go : (b : Bool) → cond b (F .verdict s) Wait ≡ Take k n → F .verdict s ≡ Take k n

@@ -7,9 +7,9 @@ use borrow.Author.Tests.{ne-eqb}
 use lib.ListN.{length}
 use Rattle.bits.specs.Told.{Told, Accepted, Refused, andThen, kind}
 use Rattle.bits.specs.Field.{Reading, reading, readUnsigned}
+use Rattle.bits.proofs.ReadLaws.{taken}
 use Rattle.formats.specs.Format.{times}
 use Rattle.observations.specs.declared.answer.Observation.{Observation}
-use Rattle.observations.proofs.TakeLaws.{taken}
 use Rattle.observations.specs.Message1001.{Message, message, message1001, observation1001}
 
 module _ (s : List ℕ) where

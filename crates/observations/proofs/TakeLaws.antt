@@ -1,23 +1,22 @@
 -- Numbers as the code takes them out of the data: within their width, or cut short. Assumes nothing.
 use mathlib.Core.Path.{_≡_, refl, sym, ap, _∙_}
 use mathlib.Core.List.{List, [], _∷_}
-use Prim.Native.Nat.{ℕ, _+_, _*_, _^_, _≤_, _<_}
+use Prim.Native.Nat.{ℕ, _^_, _<_}
 use native.Mathlib.Omega.{arith}
 use borrow.Author.Tests.{ltb-true}
 use lib.IntN.{ℤ}
-use lib.ListN.{length}
 use lib.Signed.{mag}
 use types.Run.{OneOf}
 use denote.Enum.Declared.{tagOf}
 use mir.Syntax.{w32, w64}
 use mir.Val.{SFits, toZ, ofZ}
 use mir.ValLaws.{toZ-ofZ}
-use Rattle.bits.specs.Told.{Accepted, size, width, short}
-use Rattle.bits.specs.Field.{field, Reading, reading, readBy, readUnsigned, readTwos}
+use Rattle.bits.specs.Told.{Accepted, short}
+use Rattle.bits.specs.Field.{field, Reading, reading, readUnsigned, readTwos}
 use Rattle.bits.specs.Signed.{twosOf, fitsTwos}
 use Rattle.bits.proofs.FieldLaws.{field-lt}
 use Rattle.bits.proofs.SignedLaws.{fits-twos, twos-fits}
-use Rattle.bits.proofs.ReadLaws.{refused-short, read-tells, value-tells}
+use Rattle.bits.proofs.ReadLaws.{read-tells}
 use Rattle.observations.proofs.read.Number.{the-type as number-type}
 use Rattle.observations.proofs.read.Phase.{the-type as phase-type}
 use Rattle.observations.specs.Steps.{toldNumber, lackOf, toldPhase, phaseLackOf}
@@ -26,21 +25,6 @@ use Rattle.observations.specs.declared.read.Number.{Number}
 use Rattle.observations.specs.declared.read.Number.the-variants as N
 use Rattle.observations.specs.declared.read.Phase.{Phase}
 use Rattle.observations.specs.declared.read.Phase.the-variants as P
-
--- what a number that is read tells
-pub taken : (s : List ℕ) (p w : ℕ) {v q : ℕ} → readUnsigned s p w ≡ Accepted (reading v q) → (v < 2 ^ w) × (q ≡ p + w) × (q ≤ length s * 8)
-taken s p w {v} {q} e =
-    let t = read-tells (λ x. x) s p w e in
-    let d : q ≡ p + w = ap (λ (r : Reading ℕ). r .next) (t .is) in
-    (value-tells s p w (sym e) .2, d, omega (arith, d, t .within))
-
--- data and width within their limits are refused neither with Size nor with Width
-module _ {A : Type 0} (meaning : ℕ → A) (s : List ℕ) (p w : ℕ) (few : length s ≤ 1023) (low : 1 ≤ w) (high : w ≤ 64) where
-  pub no-size : size ≡ readBy meaning s p w → ⊥
-  no-size e = let d = e ∙ refused-short meaning s p w few low high (sym e) in let z : _≡_ {A = ℕ} 9 1 = cc in omega arith
-
-  pub no-width : width ≡ readBy meaning s p w → ⊥
-  no-width e = let d = e ∙ refused-short meaning s p w few low high (sym e) in let z : _≡_ {A = ℕ} 2 1 = cc in omega arith
 
 -- a phase range of 20 bits fits 32 and 64
 phase-small : (s : List ℕ) (p : ℕ) {z : ℤ} {q : ℕ} → readTwos s p 20 ≡ Accepted (reading z q) → mag z < 2 ^ 19

@@ -52,22 +52,6 @@ module _ (mode : ℕ) (a : List ℕ) (x : Scanner) (o : List ℕ) where
 
   -- ---- what an accepted call came from
 
-  was-done : (r : Told (FedAnswer Kind)) (s : ℕ) (y : Scanner) → closedBy r ≡ Accepted (Done s y) → (t : ℕ) × (z : Scanner) × (r ≡ Accepted (call.More t s z))
-  was-done (Accepted (call.More t u z)) s y e = let us : u ≡ s = cc in (t, z, ap (λ n. Accepted (call.More t n z)) us)
-  was-done (Accepted (call.Frame l t u i k z)) s y e = let z : _≡_ {A = ℕ} 0 1 = cc in absurd (omega arith)
-  was-done (Refused n cs) s y e = let z : _≡_ {A = ℕ} 0 1 = cc in absurd (omega arith)
-
-  was-found : (r : Told (FedAnswer Kind)) (l s i : ℕ) (k : Kind) (y : Scanner) → closedBy r ≡ Accepted (Frame l s i k y) → (t : ℕ) × (r ≡ Accepted (call.Frame l t s i k y))
-  was-found (Accepted (call.More t u z)) l s i k y e = let z : _≡_ {A = ℕ} 0 1 = cc in absurd (omega arith)
-  was-found (Accepted (call.Frame m t u j d z)) l s i k y e =
-      let ml : m ≡ l = cc in
-      let us : u ≡ s = cc in
-      let ji : j ≡ i = cc in
-      let dk : d ≡ k = cc in
-      let zy : z ≡ y = cc in
-      (t, λ n. Accepted (call.Frame (ml n) t (us n) (ji n) (dk n) (zy n)))
-  was-found (Refused n cs) l s i k y e = let z : _≡_ {A = ℕ} 0 1 = cc in absurd (omega arith)
-
   same-mode : (r : Next (Gave Why) Kind) (l t s i : ℕ) (k : Kind) (y : Scanner) (b q : List ℕ) → called (only r) x a o ≡ outcome (Accepted (call.Frame l t s i k y)) (b, q) → y .mode ≡ x .mode
   same-mode (Held is g) l t s i k y b q v =
       let e : _≡_ {A = Told (FedAnswer Kind)} (Accepted (call.More 0 (length is) (onwards x 0 (length g)))) (Accepted (call.Frame l t s i k y)) = ap (λ z. z .answer) v in
@@ -79,14 +63,14 @@ module _ (mode : ℕ) (a : List ℕ) (x : Scanner) (o : List ℕ) where
 
   found-fits : (l s i : ℕ) (k : Kind) (y : Scanner) (b q : List ℕ) → closeOf F a x o ≡ outcome (Accepted (Frame l s i k y)) (b, q) → Fits a x [] o × (y .mode ≡ x .mode)
   found-fits l s i k y b q e =
-      let r = was-found (feedOf (ending F) a x [] o .answer) l s i k y (ap (λ z. z .answer) (sym (close-is F a x o) ∙ e)) in
+      let r = closing.is-found (feedOf (ending F) a x [] o .answer) l s i k y (ap (λ z. z .answer) (sym (close-is F a x o) ∙ e)) in
       let f : feedOf (ending F) a x [] o ≡ outcome (Accepted (call.Frame l (r .0) s i k y)) (b, q) = λ j. outcome (r .1 j) ((sym (close-is F a x o) ∙ e) j .areas) in
       let v = accepts (ending F) a x [] o (call.Frame l (r .0) s i k y) b q f in
       (v .0, same-mode (next (decide (ending F)) (take (x .count) a)) l (r .0) s i k y b q (v .1))
 
   done-fits : (s : ℕ) (y : Scanner) (b q : List ℕ) → closeOf F a x o ≡ outcome (Accepted (Done s y)) (b, q) → Fits a x [] o
   done-fits s y b q e =
-      let r = was-done (feedOf (ending F) a x [] o .answer) s y (ap (λ z. z .answer) (sym (close-is F a x o) ∙ e)) in
+      let r = closing.is-done (feedOf (ending F) a x [] o .answer) s y (ap (λ z. z .answer) (sym (close-is F a x o) ∙ e)) in
       let f : feedOf (ending F) a x [] o ≡ outcome (Accepted (call.More (r .0) s (r .1))) (b, q) = λ j. outcome (r .2 j) ((sym (close-is F a x o) ∙ e) j .areas) in
       accepts (ending F) a x [] o (call.More (r .0) s (r .1)) b q f .0
 

@@ -1,6 +1,5 @@
 // What the words of a program ask for that has no option of its own.
-ghost use Rattle.reading.specs.Asked.{Comes, IsWord};
-ghost use Rattle.reading.specs.Asked.{nothing as Asked·nothing, noted as Asked·noted, named as Asked·named, first as Asked·first};
+ghost use Rattle.reading.specs.Asked.{Comes, IsWord, nothing as Asked·nothing, noted as Asked·noted, named as Asked·named, first as Asked·first};
 ghost use mathlib.Core.Path.{_≡_};
 use crate::arguments;
 use crate::arguments::Kind;

@@ -6,8 +6,8 @@ use native.Mathlib.Omega.{arith}
 use borrow.Author.Tests.{ne-eqb}
 use Rattle.bits.specs.Told.{Accepted, Refused, kind}
 use Rattle.bits.specs.Field.{reading, readUnsigned}
+use Rattle.bits.proofs.ReadLaws.{taken}
 use Rattle.whole.specs.Headers.{front1230}
-use Rattle.whole.proofs.TakeLaws.{taken}
 
 module _ (s : List ℕ) where
   pub number-cut : {n : ℕ} {carried : List ℕ} → readUnsigned s 0 12 ≡ Refused n carried → Refused n carried ≡ front1230 .reads s 0

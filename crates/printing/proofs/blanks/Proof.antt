@@ -13,15 +13,6 @@ use Rattle.printing.proofs.blanks.Tie as tie
 least-requires : tie.Need-least-requires
 least-requires c κs = search needs
 
-sub-text : tie.Need-sub-text
-sub-text c = search needs
-
-part-text-start : tie.Need-part-text-start
-part-text-start c = search needs
-
-part-text-end : tie.Need-part-text-end
-part-text-end c = search needs
-
 text-requires : tie.Need-text-requires
 text-requires c κs = search needs
 
@@ -34,4 +25,10 @@ returns c =
 pub blanks-spec : {M : Type 1} → statement M
 blanks-spec =
     tie.close
-    (tie.spec least-requires sub-text part-text-start part-text-end text-requires returns)
+    (tie.spec
+    least-requires
+    (λ c. search needs)
+    (λ c. search needs)
+    (λ c. search needs)
+    text-requires
+    returns)

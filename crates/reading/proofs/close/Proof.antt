@@ -21,14 +21,8 @@ holding-requires c κs = search needs
 close-requires : tie.Need-close-requires
 close-requires c κs = search needs
 
-enum-known-length : tie.Need-enum-known-length
-enum-known-length c = search needs
-
 framed-requires : tie.Need-framed-requires
 framed-requires c κs = search needs
-
-enum-known-skipped : tie.Need-enum-known-skipped
-enum-known-skipped c = search needs
 
 emptied-requires : tie.Need-emptied-requires
 emptied-requires c κs = search needs
@@ -67,9 +61,9 @@ close-spec =
     (tie.spec
     holding-requires
     close-requires
-    enum-known-length
+    (λ c. search needs)
     framed-requires
-    enum-known-skipped
+    (λ c. search needs)
     emptied-requires
     returns
     returns-2

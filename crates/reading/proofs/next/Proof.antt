@@ -8,17 +8,8 @@ use Rattle.reading.proofs.next.Tie as tie
 take-requires : tie.Need-take-requires
 take-requires c κs = search needs
 
-enum-known-place : tie.Need-enum-known-place
-enum-known-place c = search needs
-
-enum-known-a : tie.Need-enum-known-a
-enum-known-a c = search needs
-
 refill-requires : tie.Need-refill-requires
 refill-requires c κs = search needs
-
-enum-known-a-2 : tie.Need-enum-known-a-2
-enum-known-a-2 c = search needs
 
 returns : tie.Need-returns
 returns c = λ h. subst RightTaken (c .before .place .given .1) (c .before .before .before .take .ensures h)
@@ -34,10 +25,10 @@ next-spec =
     tie.close
     (tie.spec
     take-requires
-    enum-known-place
-    enum-known-a
+    (λ c. search needs)
+    (λ c. search needs)
     refill-requires
-    enum-known-a-2
+    (λ c. search needs)
     returns
     returns-2
     returns-3)

@@ -7,26 +7,17 @@ use Rattle.reading.proofs.read_on.Tie as tie
 read-requires : tie.Need-read-requires
 read-requires c κs = search needs
 
-same-length : tie.Need-same-length
-same-length c = search needs
-
 returns : tie.Need-returns
 returns c = search needs
 
 count-requires : tie.Need-count-requires
 count-requires c κs = search needs
 
-same-length-2 : tie.Need-same-length-2
-same-length-2 c = search needs
-
 returns-2 : tie.Need-returns-2
 returns-2 c = search needs
 
 grown-requires : tie.Need-grown-requires
 grown-requires c κs = search needs
-
-same-length-3 : tie.Need-same-length-3
-same-length-3 c = search needs
 
 returns-3 : tie.Need-returns-3
 returns-3 c = λ h l. c .grown .ensures h (omega (arith, l, c .before .before .count .ensures, c .before .before .before .before .before .before .before .read .kept))
@@ -36,11 +27,11 @@ read-on-spec =
     tie.close
     (tie.spec
     read-requires
-    same-length
+    (λ c. search needs)
     returns
     count-requires
-    same-length-2
+    (λ c. search needs)
     returns-2
     grown-requires
-    same-length-3
+    (λ c. search needs)
     returns-3)

@@ -24,14 +24,8 @@ holding-requires c κs = search needs
 feed-requires : tie.Need-feed-requires
 feed-requires c κs = search needs
 
-enum-known-length : tie.Need-enum-known-length
-enum-known-length c = search needs
-
 framed-requires : tie.Need-framed-requires
 framed-requires c κs = search needs
-
-enum-known-skipped : tie.Need-enum-known-skipped
-enum-known-skipped c = search needs
 
 passed-requires : tie.Need-passed-requires
 passed-requires c κs = search needs
@@ -82,9 +76,9 @@ take-spec =
     part-requires
     holding-requires
     feed-requires
-    enum-known-length
+    (λ c. search needs)
     framed-requires
-    enum-known-skipped
+    (λ c. search needs)
     passed-requires
     returns
     returns-2

@@ -29,15 +29,6 @@ settings-at-requires c κs = tt
 show-argument-requires : tie.Need-show-argument-requires Inv-loop μ-loop
 show-argument-requires c κs = tt
 
-enum-told : tie.Need-enum-told Inv-loop μ-loop
-enum-told c = search needs
-
-enum-told-2 : tie.Need-enum-told-2 Inv-loop μ-loop
-enum-told-2 c = search needs
-
-enum-told-3 : tie.Need-enum-told-3 Inv-loop μ-loop
-enum-told-3 c = search needs
-
 returns : tie.Need-returns Inv-loop μ-loop
 returns c = tt
 
@@ -65,9 +56,9 @@ show-all-spec =
     loop-holds
     settings-at-requires
     show-argument-requires
-    enum-told
-    enum-told-2
-    enum-told-3
+    (λ c. search needs)
+    (λ c. search needs)
+    (λ c. search needs)
     returns
     add-i
     loop-less

@@ -18,14 +18,8 @@ text-requires c κs = search needs
 loop-holds : tie.Need-loop-holds Inv-loop μ-loop
 loop-holds c = refl
 
-slice-aggregate-text : tie.Need-slice-aggregate-text Inv-loop μ-loop
-slice-aggregate-text c = search needs
-
 text-requires-2 : tie.Need-text-requires-2 Inv-loop μ-loop
 text-requires-2 c κs = search needs
-
-shared-slice-read-wide : tie.Need-shared-slice-read-wide Inv-loop μ-loop
-shared-slice-read-wide c = search needs
 
 wide-requires : tie.Need-wide-requires Inv-loop μ-loop
 wide-requires c κs = search needs
@@ -39,17 +33,11 @@ has-space-requires c κs = search needs
 returns : tie.Need-returns Inv-loop μ-loop
 returns c = search needs
 
-add-i : tie.Need-add-i Inv-loop μ-loop
-add-i c = search needs
-
 loop-less : tie.Need-loop-less Inv-loop μ-loop
 loop-less c = search needs
 
 loop-again : tie.Need-loop-again Inv-loop μ-loop
 loop-again c = search needs
-
-slice-aggregate-text-2 : tie.Need-slice-aggregate-text-2 Inv-loop μ-loop
-slice-aggregate-text-2 c = search needs
 
 text-requires-3 : tie.Need-text-requires-3 Inv-loop μ-loop
 text-requires-3 c κs = search needs
@@ -68,17 +56,17 @@ row-spec =
     μ-loop
     text-requires
     loop-holds
-    slice-aggregate-text
+    (λ c. search needs)
     text-requires-2
-    shared-slice-read-wide
+    (λ c. search needs)
     wide-requires
     hex-requires
     has-space-requires
     returns
-    add-i
+    (λ c. search needs)
     loop-less
     loop-again
-    slice-aggregate-text-2
+    (λ c. search needs)
     text-requires-3
     flush-requires
     returns-2)

@@ -28,9 +28,6 @@ sub-turns c = omega arith
 next-requires : tie.Need-next-requires Inv-loop μ-loop
 next-requires c κs = tt
 
-enum-known-place : tie.Need-enum-known-place Inv-loop μ-loop
-enum-known-place c = search needs
-
 show-frame-requires : tie.Need-show-frame-requires Inv-loop μ-loop
 show-frame-requires c κs = tt
 
@@ -46,9 +43,6 @@ loop-less c = omega arith
 loop-again : tie.Need-loop-again Inv-loop μ-loop
 loop-again c = tt
 
-enum-known-a : tie.Need-enum-known-a Inv-loop μ-loop
-enum-known-a c = search needs
-
 opening-requires : tie.Need-opening-requires Inv-loop μ-loop
 opening-requires c κs = tt
 
@@ -58,9 +52,6 @@ loop-less-2 c = omega arith
 loop-again-2 : tie.Need-loop-again-2 Inv-loop μ-loop
 loop-again-2 c = tt
 
-enum-known-a-2 : tie.Need-enum-known-a-2 Inv-loop μ-loop
-enum-known-a-2 c = search needs
-
 empty-requires : tie.Need-empty-requires Inv-loop μ-loop
 empty-requires c κs = tt
 
@@ -69,9 +60,6 @@ closing-requires c κs = tt
 
 returns-2 : tie.Need-returns-2 Inv-loop μ-loop
 returns-2 c = tt
-
-enum-known-a-3 : tie.Need-enum-known-a-3 Inv-loop μ-loop
-enum-known-a-3 c = search needs
 
 fail-requires : tie.Need-fail-requires Inv-loop μ-loop
 fail-requires c κs = tt
@@ -97,21 +85,21 @@ show-spec =
     loop-holds
     sub-turns
     next-requires
-    enum-known-place
+    (λ c. search needs)
     show-frame-requires
     flush-requires
     returns
     loop-less
     loop-again
-    enum-known-a
+    (λ c. search needs)
     opening-requires
     loop-less-2
     loop-again-2
-    enum-known-a-2
+    (λ c. search needs)
     empty-requires
     closing-requires
     returns-2
-    enum-known-a-3
+    (λ c. search needs)
     fail-requires
     closing-requires-2
     returns-3

@@ -23,15 +23,6 @@ loop-holds c = tt
 show-argument-requires : tie.Need-show-argument-requires Inv-loop μ-loop
 show-argument-requires c κs = tt
 
-enum-told : tie.Need-enum-told Inv-loop μ-loop
-enum-told c = search needs
-
-enum-told-2 : tie.Need-enum-told-2 Inv-loop μ-loop
-enum-told-2 c = search needs
-
-enum-told-3 : tie.Need-enum-told-3 Inv-loop μ-loop
-enum-told-3 c = search needs
-
 returns : tie.Need-returns Inv-loop μ-loop
 returns c = tt
 
@@ -57,9 +48,9 @@ show-all-spec =
     arg-count-requires
     loop-holds
     show-argument-requires
-    enum-told
-    enum-told-2
-    enum-told-3
+    (λ c. search needs)
+    (λ c. search needs)
+    (λ c. search needs)
     returns
     add-i
     loop-less

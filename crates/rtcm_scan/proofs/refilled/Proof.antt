@@ -9,17 +9,11 @@ use Rattle.rtcm_scan.proofs.refilled.Tie as tie
 refill-requires : tie.Need-refill-requires
 refill-requires c κs = search needs
 
-enum-known-b : tie.Need-enum-known-b
-enum-known-b c = search needs
-
 opening-requires : tie.Need-opening-requires
 opening-requires c κs = search needs
 
 over-requires : tie.Need-over-requires
 over-requires c κs = search needs
-
-enum-known-b-2 : tie.Need-enum-known-b-2
-enum-known-b-2 c = search needs
 
 fail-requires : tie.Need-fail-requires
 fail-requires c κs = search needs
@@ -47,10 +41,10 @@ refilled-spec =
     tie.close
     (tie.spec
     refill-requires
-    enum-known-b
+    (λ c. search needs)
     opening-requires
     over-requires
-    enum-known-b-2
+    (λ c. search needs)
     fail-requires
     over-requires-2
     empty-requires

@@ -23,12 +23,6 @@ loop-holds c = tt
 scan-argument-requires : tie.Need-scan-argument-requires Inv-loop μ-loop
 scan-argument-requires c κs = tt
 
-enum-told : tie.Need-enum-told Inv-loop μ-loop
-enum-told c = search needs
-
-enum-told-2 : tie.Need-enum-told-2 Inv-loop μ-loop
-enum-told-2 c = search needs
-
 returns : tie.Need-returns Inv-loop μ-loop
 returns c = tt
 
@@ -54,8 +48,8 @@ scan-all-spec =
     arg-count-requires
     loop-holds
     scan-argument-requires
-    enum-told
-    enum-told-2
+    (λ c. search needs)
+    (λ c. search needs)
     returns
     add-i
     loop-less

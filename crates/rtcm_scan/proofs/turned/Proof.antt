@@ -8,9 +8,6 @@ use Rattle.rtcm_scan.proofs.turned.Tie as tie
 take-requires : tie.Need-take-requires
 take-requires c κs = tt
 
-enum-known-place : tie.Need-enum-known-place
-enum-known-place c = search needs
-
 skipped-requires : tie.Need-skipped-requires
 skipped-requires c κs = tt
 
@@ -23,17 +20,11 @@ shown-requires c κs = tt
 over-requires : tie.Need-over-requires
 over-requires c κs = tt
 
-enum-known-a : tie.Need-enum-known-a
-enum-known-a c = search needs
-
 skipped-requires-2 : tie.Need-skipped-requires-2
 skipped-requires-2 c κs = tt
 
 refilled-requires : tie.Need-refilled-requires
 refilled-requires c κs = tt
-
-enum-known-a-2 : tie.Need-enum-known-a-2
-enum-known-a-2 c = search needs
 
 over-requires-2 : tie.Need-over-requires-2
 over-requires-2 c κs = tt
@@ -52,15 +43,15 @@ turned-spec =
     tie.close
     (tie.spec
     take-requires
-    enum-known-place
+    (λ c. search needs)
     skipped-requires
     frame-requires
     shown-requires
     over-requires
-    enum-known-a
+    (λ c. search needs)
     skipped-requires-2
     refilled-requires
-    enum-known-a-2
+    (λ c. search needs)
     over-requires-2
     returns
     returns-2

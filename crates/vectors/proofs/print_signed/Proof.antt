@@ -8,9 +8,6 @@ use Rattle.bits.proofs.SignedCode.{neg-cast, pos-cast, to-unsigned, mag-small}
 use Rattle.vectors.proofs.print_signed.Statement.{statement}
 use Rattle.vectors.proofs.print_signed.Tie as tie
 
-slice-aggregate-text : tie.Need-slice-aggregate-text
-slice-aggregate-text c = search needs
-
 text-requires : tie.Need-text-requires
 text-requires c κs = search needs
 
@@ -52,7 +49,7 @@ pub print-signed-spec : {M : Type 1} → statement M
 print-signed-spec =
     tie.close
     (tie.spec
-    slice-aggregate-text
+    (λ c. search needs)
     text-requires
     sub-m
     cast-m

@@ -15,17 +15,8 @@ Inv-loop part out₀ k₀ sum₀ out k sum = Filling part out₀ out k (weightAt
 abbrev μ-loop : tie.MeasureT-loop
 μ-loop part out₀ k₀ sum₀ out k sum = k
 
-mul-out : tie.Need-mul-out Inv-loop μ-loop
-mul-out c = search needs
-
-slice-write-out : tie.Need-slice-write-out Inv-loop μ-loop
-slice-write-out c = search needs
-
 loop-holds : tie.Need-loop-holds Inv-loop μ-loop
 loop-holds c = let a = c .before .before .args in adding-first (a .part .now) (a .out .now) (c .before .before .pre .0) (c .before .before .pre .1)
-
-sub-k : tie.Need-sub-k Inv-loop μ-loop
-sub-k c = search needs
 
 mul-sum : tie.Need-mul-sum Inv-loop μ-loop
 mul-sum c = record { fits = omega (arith, c .before .loop .inv .place) }
@@ -64,10 +55,10 @@ add-up-spec =
     (tie.spec
     Inv-loop
     μ-loop
-    mul-out
-    slice-write-out
+    (λ c. search needs)
+    (λ c. search needs)
     loop-holds
-    sub-k
+    (λ c. search needs)
     mul-sum
     slice-read-sum
     low-requires

@@ -14,17 +14,8 @@ Inv-loop part out₀ k₀ weight₀ sum₀ out k weight sum = Filling part out�
 abbrev μ-loop : tie.MeasureT-loop
 μ-loop part out₀ k₀ weight₀ sum₀ out k weight sum = k
 
-mul-out : tie.Need-mul-out Inv-loop μ-loop
-mul-out c = search needs
-
-slice-write-out : tie.Need-slice-write-out Inv-loop μ-loop
-slice-write-out c = search needs
-
 loop-holds : tie.Need-loop-holds Inv-loop μ-loop
 loop-holds c = let a = c .before .before .args in filling-first (a .part .now) (a .out .now) (c .before .before .pre)
-
-sub-k : tie.Need-sub-k Inv-loop μ-loop
-sub-k c = search needs
 
 shared-slice-read-times : tie.Need-shared-slice-read-times Inv-loop μ-loop
 shared-slice-read-times c = omega (arith, c .before .before .loop .inv .place)
@@ -76,10 +67,10 @@ fill-spec =
     (tie.spec
     Inv-loop
     μ-loop
-    mul-out
-    slice-write-out
+    (λ c. search needs)
+    (λ c. search needs)
     loop-holds
-    sub-k
+    (λ c. search needs)
     shared-slice-read-times
     cast-times
     times-requires

@@ -15,14 +15,8 @@ Inv-loop part weights out₀ first k₀ out k = Taking part out₀ out k
 abbrev μ-loop : tie.MeasureT-loop
 μ-loop part weights out₀ first k₀ out k = length part - k
 
-sub-first : tie.Need-sub-first Inv-loop μ-loop
-sub-first c = search needs
-
 loop-holds : tie.Need-loop-holds Inv-loop μ-loop
 loop-holds c = let a = c .before .before .args in taking-first (a .part .now) (a .out .now) (c .before .before .pre .1)
-
-shared-slice-read-times : tie.Need-shared-slice-read-times Inv-loop μ-loop
-shared-slice-read-times c = search needs
 
 cast-times : tie.Need-cast-times Inv-loop μ-loop
 cast-times c = record { fits = omega (arith, c .shared-slice-known2 .given (c .before .before .loop .k) .fits) }
@@ -44,9 +38,6 @@ mul-out c = record { fits = omega (arith, c .before .before .before .before .bef
 
 slice-write-out : tie.Need-slice-write-out Inv-loop μ-loop
 slice-write-out c = omega (arith, c .before .before .before .before .loop .inv .as-long, c .before .before .before .before .before .before .before .pre .1)
-
-add-k : tie.Need-add-k Inv-loop μ-loop
-add-k c = search needs
 
 loop-less : tie.Need-loop-less Inv-loop μ-loop
 loop-less c = search needs
@@ -71,9 +62,9 @@ products-spec =
     (tie.spec
     Inv-loop
     μ-loop
-    sub-first
+    (λ c. search needs)
     loop-holds
-    shared-slice-read-times
+    (λ c. search needs)
     cast-times
     add-times
     mul-times
@@ -81,7 +72,7 @@ products-spec =
     times-requires
     mul-out
     slice-write-out
-    add-k
+    (λ c. search needs)
     loop-less
     loop-again
     same-length

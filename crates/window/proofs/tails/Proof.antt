@@ -15,9 +15,6 @@ returns c = let a = c .before .before .before .args in no-room (a .part .now) (a
 fill-requires : tie.Need-fill-requires
 fill-requires c κs = search needs
 
-same-length : tie.Need-same-length
-same-length c = search needs
-
 returns-2 : tie.Need-returns-2
 returns-2 c = let a = c .before .before .before .before .before .before .before .before .args in c .before .before .fill .ensures ∙ with-room (a .part .now) (a .out .now) (omega arith)
 
@@ -28,9 +25,6 @@ products-requires c κs = (omega arith, omega arith, weights-are)
 add-up-requires : tie.Need-add-up-requires
 add-up-requires c κs = search needs
 
-same-length-2 : tie.Need-same-length-2
-same-length-2 c = search needs
-
 returns-3 : tie.Need-returns-3
 returns-3 c = let a = c .before .before .before .before .before .before .before .before .before .before .before .before .before .args in c .before .before .add-up .ensures ∙ onto-same (a .part .now) (a .out .now) _ (c .before .before .before .before .before .before .products .ensures) ∙ with-room (a .part .now) (a .out .now) (omega arith)
 
@@ -40,9 +34,9 @@ tails-spec =
     (tie.spec
     returns
     fill-requires
-    same-length
+    (λ c. search needs)
     returns-2
     products-requires
     add-up-requires
-    same-length-2
+    (λ c. search needs)
     returns-3)

@@ -18,18 +18,6 @@ abbrev μ-loop : tie.MeasureT-loop
 loop-holds : tie.Need-loop-holds Inv-loop μ-loop
 loop-holds c = (omega arith, refl, refl)
 
-add-held : tie.Need-add-held Inv-loop μ-loop
-add-held c = search needs
-
-slice-read-held : tie.Need-slice-read-held Inv-loop μ-loop
-slice-read-held c = search needs
-
-slice-write-held : tie.Need-slice-write-held Inv-loop μ-loop
-slice-write-held c = search needs
-
-add-k : tie.Need-add-k Inv-loop μ-loop
-add-k c = search needs
-
 loop-less : tie.Need-loop-less Inv-loop μ-loop
 loop-less c = search needs
 
@@ -41,9 +29,6 @@ loop-again c =
       ap (λ x. set x (l .loop .k) (getD x (a .i + l .loop .k) 0)) (l .loop .inv .1) ∙ shift-turn (a .held .now) (a .i) (l .loop .k) (omega arith),
       rw length-set (l .loop .inv .2),
     )
-
-same-length : tie.Need-same-length Inv-loop μ-loop
-same-length c = search needs
 
 returns : tie.Need-returns Inv-loop μ-loop
 returns c =
@@ -59,11 +44,11 @@ shift-spec =
     Inv-loop
     μ-loop
     loop-holds
-    add-held
-    slice-read-held
-    slice-write-held
-    add-k
+    (λ c. search needs)
+    (λ c. search needs)
+    (λ c. search needs)
+    (λ c. search needs)
     loop-less
     loop-again
-    same-length
+    (λ c. search needs)
     returns)

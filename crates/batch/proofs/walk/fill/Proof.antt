@@ -17,12 +17,6 @@ abbrev μ-loop : tie.MeasureT-loop
 loop-holds : tie.Need-loop-holds Inv-loop μ-loop
 loop-holds c = (filled-none _ _ _ _ _ _ _ (c .before .before .before .before .before .before .pre .parts), omega arith)
 
-mul-size-of : tie.Need-mul-size-of Inv-loop μ-loop
-mul-size-of c = search needs
-
-shared-slice-read-size-of : tie.Need-shared-slice-read-size-of Inv-loop μ-loop
-shared-slice-read-size-of c = search needs
-
 size-of-requires : tie.Need-size-of-requires Inv-loop μ-loop
 size-of-requires c κs = search needs
 
@@ -51,9 +45,6 @@ kind-at-requires c κs =
 slice-write-kinds : tie.Need-slice-write-kinds Inv-loop μ-loop
 slice-write-kinds c = omega (arith, c .before .before .before .before .before .before .before .before .before .before .before .before .before .before .before .before .before .pre .room, c .before .before .before .before .before .before .before .before .before .before .loop .inv .0 .room)
 
-add-k : tie.Need-add-k Inv-loop μ-loop
-add-k c = search needs
-
 loop-less : tie.Need-loop-less Inv-loop μ-loop
 loop-less c = omega arith
 
@@ -79,8 +70,8 @@ fill-spec =
     Inv-loop
     μ-loop
     loop-holds
-    mul-size-of
-    shared-slice-read-size-of
+    (λ c. search needs)
+    (λ c. search needs)
     size-of-requires
     mul-size-of-2
     shared-slice-read-size-of-2
@@ -88,7 +79,7 @@ fill-spec =
     copy-early-requires
     kind-at-requires
     slice-write-kinds
-    add-k
+    (λ c. search needs)
     loop-less
     loop-again
     same-length

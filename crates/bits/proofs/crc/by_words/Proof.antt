@@ -1,6 +1,6 @@
 -- The first bytes are one word with zeros in front, and the words behind it are folded. Assumes nothing.
 use mathlib.Core.Path.{ap, sym, _∙_}
-use Prim.Native.Nat.{ℕ, _+_, _*_, _-_, _/_, _%_, _^_}
+use Prim.Native.Nat.{ℕ, _*_, _-_, _/_, _^_}
 use native.Mathlib.Omega.{arith}
 use lib.ListN.{length}
 use Rattle.bits.proofs.CrcLaws.{crc-is}
@@ -9,26 +9,8 @@ use borrow.Author.Needs.{needs}
 use Rattle.bits.proofs.crc.by_words.Statement.{statement}
 use Rattle.bits.proofs.crc.by_words.Tie as tie
 
-sub-front : tie.Need-sub-front
-sub-front c = search needs
-
-mul-front : tie.Need-mul-front
-mul-front c = search needs
-
-sub-front-2 : tie.Need-sub-front-2
-sub-front-2 c = search needs
-
 eight-at-requires : tie.Need-eight-at-requires
 eight-at-requires c κs = search needs
-
-mul-word : tie.Need-mul-word
-mul-word c = search needs
-
-sub-word : tie.Need-sub-word
-sub-word c = search needs
-
-shr-word : tie.Need-shr-word
-shr-word c = search needs
 
 words-requires : tie.Need-words-requires
 words-requires c κs = search needs
@@ -43,4 +25,4 @@ returns c =
     ∙ sym (crc-is s)
 
 pub by-words-spec : {M : Type 1} → statement M
-by-words-spec = tie.close (tie.spec sub-front mul-front sub-front-2 eight-at-requires mul-word sub-word shr-word words-requires returns)
+by-words-spec = tie.close (tie.spec (λ c. search needs) (λ c. search needs) (λ c. search needs) eight-at-requires (λ c. search needs) (λ c. search needs) (λ c. search needs) words-requires returns)

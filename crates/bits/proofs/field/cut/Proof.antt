@@ -14,16 +14,10 @@ returns c =
     let a = c .before .args in
     ap (short {A = Reading ℕ} (a .start)) (sym (missing-all (a .all) (a .start) (a .width) (omega arith)))
 
-sub-t5 : tie.Need-sub-t5
-sub-t5 c = search needs
-
-sub-t6 : tie.Need-sub-t6
-sub-t6 c = search needs
-
 returns-2 : tie.Need-returns-2
 returns-2 c =
     let a = c .before .args in
     ap (short {A = Reading ℕ} (a .start)) (sym (missing-some (a .all) (a .start) (a .width) (omega arith) (omega arith)))
 
 pub cut-spec : {M : Type 1} → statement M
-cut-spec = tie.close (tie.spec returns sub-t5 sub-t6 returns-2)
+cut-spec = tie.close (tie.spec returns (λ c. search needs) (λ c. search needs) returns-2)

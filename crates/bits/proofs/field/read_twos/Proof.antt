@@ -12,21 +12,9 @@ use Rattle.bits.proofs.field.read_twos.Tie as tie
 read-unsigned-requires : tie.Need-read-unsigned-requires
 read-unsigned-requires c κs = search needs
 
-enum-known-v : tie.Need-enum-known-v
-enum-known-v c = search needs
-
 twos-requires : tie.Need-twos-requires
 twos-requires c κs =
     value-tells _ _ _ (ap toldUnsigned (sym (c .before .v .given .1)) ∙ c .before .before .before .read-unsigned .ensures)
-
-enum-told : tie.Need-enum-told
-enum-told c = search needs
-
-enum-told-2 : tie.Need-enum-told-2
-enum-told-2 c = search needs
-
-enum-known-place : tie.Need-enum-known-place
-enum-known-place c = search needs
 
 returns : tie.Need-returns
 returns c =
@@ -50,11 +38,11 @@ read-twos-spec =
     tie.close
     (tie.spec
     read-unsigned-requires
-    enum-known-v
+    (λ c. search needs)
     twos-requires
-    enum-told
-    enum-told-2
-    enum-known-place
+    (λ c. search needs)
+    (λ c. search needs)
+    (λ c. search needs)
     returns
     returns-2
     returns-3

@@ -13,15 +13,6 @@ use Rattle.bits.proofs.field.read_unsigned.Tie as tie
 limits-of-requires : tie.Need-limits-of-requires
 limits-of-requires c κs = search needs
 
-enum-told : tie.Need-enum-told
-enum-told c = search needs
-
-enum-told-2 : tie.Need-enum-told-2
-enum-told-2 c = search needs
-
-enum-told-3 : tie.Need-enum-told-3
-enum-told-3 c = search needs
-
 mul-all : tie.Need-mul-all
 mul-all c =
     let f = kept _ _ (sym (c .before .before .limits-of .ensures) ∙ c .enum-told3 .given .1) in
@@ -70,9 +61,9 @@ read-unsigned-spec =
     tie.close
     (tie.spec
     limits-of-requires
-    enum-told
-    enum-told-2
-    enum-told-3
+    (λ c. search needs)
+    (λ c. search needs)
+    (λ c. search needs)
     mul-all
     cut-requires
     returns

@@ -15,15 +15,6 @@ use Rattle.bits.proofs.field.write_twos.Tie as tie
 limits-of-requires : tie.Need-limits-of-requires
 limits-of-requires c κs = search needs
 
-enum-told : tie.Need-enum-told
-enum-told c = search needs
-
-enum-told-2 : tie.Need-enum-told-2
-enum-told-2 c = search needs
-
-enum-told-3 : tie.Need-enum-told-3
-enum-told-3 c = search needs
-
 fits-twos-requires : tie.Need-fits-twos-requires
 fits-twos-requires c κs = omega (arith, kept _ _ (sym (c .before .before .limits-of .ensures) ∙ c .enum-told3 .given .1))
 
@@ -48,9 +39,6 @@ returns-2 c = write-size _ _ _ _ _ (sym (c .before .before .limits-of .ensures) 
 returns-3 : tie.Need-returns-3
 returns-3 c = write-width _ _ _ _ _ (sym (c .before .before .limits-of .ensures) ∙ c .enum-told2 .given .1)
 
-same-length : tie.Need-same-length
-same-length c = search needs
-
 returns-4 : tie.Need-returns-4
 returns-4 c =
     c .before .before .place .ensures
@@ -63,14 +51,14 @@ write-twos-spec =
     tie.close
     (tie.spec
     limits-of-requires
-    enum-told
-    enum-told-2
-    enum-told-3
+    (λ c. search needs)
+    (λ c. search needs)
+    (λ c. search needs)
     fits-twos-requires
     returns
     twos-bits-requires
     place-requires
     returns-2
     returns-3
-    same-length
+    (λ c. search needs)
     returns-4)

@@ -1,9 +1,9 @@
 -- The last word comes down to 60 bits, and these to what the division leaves. Assumes nothing.
 use mathlib.Core.Path.{ap, _∙_}
-use Prim.Native.Nat.{ℕ, _/_, _%_, _^_}
+use Prim.Native.Nat.{ℕ, _%_, _^_}
 use lib.Bits.{bitXor}
 use borrow.Author.Needs.{needs}
-use Rattle.bits.specs.FoldSteps.{product, sixty}
+use Rattle.bits.specs.FoldSteps.{product}
 use Rattle.bits.proofs.FoldLaws.{last-word}
 use Rattle.bits.proofs.fold.last.Statement.{statement}
 use Rattle.bits.proofs.fold.last.Tie as tie
@@ -17,9 +17,6 @@ quotient-requires c κs = search needs
 product-requires : tie.Need-product-requires
 product-requires c κs = search needs
 
-cast-result : tie.Need-cast-result
-cast-result c = search needs
-
 returns : tie.Need-returns
 returns c =
     let g = c .before .before .before in
@@ -28,4 +25,4 @@ returns c =
     ∙ last-word (g .args .w) v (g .fits .w .fits) (c .before .before .sixty .ensures)
 
 pub last-spec : {M : Type 1} → statement M
-last-spec = tie.close (tie.spec sixty-requires quotient-requires product-requires cast-result returns)
+last-spec = tie.close (tie.spec sixty-requires quotient-requires product-requires (λ c. search needs) returns)

@@ -22,14 +22,8 @@ look-requires c κs = search needs
 returns-2 : tie.Need-returns-2
 returns-2 c = search needs
 
-sub-first : tie.Need-sub-first
-sub-first c = search needs
-
 look-requires-2 : tie.Need-look-requires-2
 look-requires-2 c κs = search needs
-
-add-look : tie.Need-add-look
-add-look c = search needs
 
 look-requires-3 : tie.Need-look-requires-3
 look-requires-3 c κs = search needs
@@ -60,9 +54,9 @@ field-at-spec =
     returns
     look-requires
     returns-2
-    sub-first
+    (λ c. search needs)
     look-requires-2
-    add-look
+    (λ c. search needs)
     look-requires-3
     add-result
     returns-3)

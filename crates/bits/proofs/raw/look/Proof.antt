@@ -8,29 +8,11 @@ use borrow.Author.Needs.{needs}
 use Rattle.bits.proofs.raw.look.Statement.{statement}
 use Rattle.bits.proofs.raw.look.Tie as tie
 
-sub-least : tie.Need-sub-least
-sub-least c = search needs
-
 least-requires : tie.Need-least-requires
 least-requires c κs = search needs
 
 eight-at-requires : tie.Need-eight-at-requires
 eight-at-requires c κs = search needs
-
-mul-result : tie.Need-mul-result
-mul-result c = search needs
-
-sub-result : tie.Need-sub-result
-sub-result c = search needs
-
-shl-result : tie.Need-shl-result
-shl-result c = search needs
-
-sub-result-2 : tie.Need-sub-result-2
-sub-result-2 c = search needs
-
-shr-result : tie.Need-shr-result
-shr-result c = search needs
 
 returns : tie.Need-returns
 returns c =
@@ -45,12 +27,12 @@ pub look-spec : {M : Type 1} → statement M
 look-spec =
     tie.close
     (tie.spec
-    sub-least
+    (λ c. search needs)
     least-requires
     eight-at-requires
-    mul-result
-    sub-result
-    shl-result
-    sub-result-2
-    shr-result
+    (λ c. search needs)
+    (λ c. search needs)
+    (λ c. search needs)
+    (λ c. search needs)
+    (λ c. search needs)
     returns)

@@ -1,10 +1,9 @@
 -- The loop has written the first k bits; each turn writes what one byte has of the field. Assumes nothing.
-use lib.ListN.{length-set}
+use lib.ListN.{length-set, length, set, getD}
 use mathlib.Core.Path.{_≡_, refl, ap, ap₂, _∙_}
 use Prim.Native.Nat.{ℕ, _+_, _/_, _%_, _^_, _≤_, _<_, _-_}
 use native.Mathlib.Nat.{mod-eq-of-lt, mod-lt, div-one}
 use native.Mathlib.Omega.{arith}
-use lib.ListN.{length, set, getD}
 use lib.Pow.{pow-pos}
 use borrow.Author.Needs.{needs}
 use Rattle.bits.specs.Field.{putField}
@@ -23,53 +22,17 @@ loop-holds : tie.Need-loop-holds Inv-loop μ-loop
 unfolding putField
 loop-holds c = (search needs, refl, refl)
 
-add-at : tie.Need-add-at Inv-loop μ-loop
-add-at c = search needs
-
-sub-least : tie.Need-sub-least Inv-loop μ-loop
-sub-least c = search needs
-
-sub-least-2 : tie.Need-sub-least-2 Inv-loop μ-loop
-sub-least-2 c = search needs
-
 least-requires : tie.Need-least-requires Inv-loop μ-loop
 least-requires c κs = search needs
 
-slice-read-wide : tie.Need-slice-read-wide Inv-loop μ-loop
-slice-read-wide c = search needs
-
 wide-requires : tie.Need-wide-requires Inv-loop μ-loop
 wide-requires c κs = search needs
-
-sub-spliced : tie.Need-sub-spliced Inv-loop μ-loop
-sub-spliced c = search needs
-
-sub-spliced-2 : tie.Need-sub-spliced-2 Inv-loop μ-loop
-sub-spliced-2 c = search needs
-
-sub-spliced-3 : tie.Need-sub-spliced-3 Inv-loop μ-loop
-sub-spliced-3 c = search needs
-
-sub-spliced-4 : tie.Need-sub-spliced-4 Inv-loop μ-loop
-sub-spliced-4 c = search needs
-
-shr-spliced : tie.Need-shr-spliced Inv-loop μ-loop
-shr-spliced c = search needs
 
 spliced-requires : tie.Need-spliced-requires Inv-loop μ-loop
 spliced-requires c κs =
     let l = c .before .before .before .before .loop in
     let a = c .before .before .before .before .before .before .args in
     omega arith
-
-cast-bytes : tie.Need-cast-bytes Inv-loop μ-loop
-cast-bytes c = search needs
-
-slice-write-bytes : tie.Need-slice-write-bytes Inv-loop μ-loop
-slice-write-bytes c = search needs
-
-add-k : tie.Need-add-k Inv-loop μ-loop
-add-k c = search needs
 
 loop-less : tie.Need-loop-less Inv-loop μ-loop
 loop-less c = search needs
@@ -109,21 +72,21 @@ put-by-bytes-spec =
     Inv-loop
     μ-loop
     loop-holds
-    add-at
-    sub-least
-    sub-least-2
+    (λ c. search needs)
+    (λ c. search needs)
+    (λ c. search needs)
     least-requires
-    slice-read-wide
+    (λ c. search needs)
     wide-requires
-    sub-spliced
-    sub-spliced-2
-    sub-spliced-3
-    sub-spliced-4
-    shr-spliced
+    (λ c. search needs)
+    (λ c. search needs)
+    (λ c. search needs)
+    (λ c. search needs)
+    (λ c. search needs)
     spliced-requires
-    cast-bytes
-    slice-write-bytes
-    add-k
+    (λ c. search needs)
+    (λ c. search needs)
+    (λ c. search needs)
     loop-less
     loop-again
     same-length

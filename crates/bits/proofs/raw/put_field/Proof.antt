@@ -12,35 +12,20 @@ use Rattle.bits.proofs.raw.put_field.Tie as tie
 put-by-bytes-requires : tie.Need-put-by-bytes-requires
 put-by-bytes-requires c κs = search needs
 
-same-length : tie.Need-same-length
-same-length c = search needs
-
 returns : tie.Need-returns
 returns c = search needs
 
 put-look-requires : tie.Need-put-look-requires
 put-look-requires c κs = search needs
 
-same-length-2 : tie.Need-same-length-2
-same-length-2 c = search needs
-
 returns-2 : tie.Need-returns-2
 returns-2 c = search needs
-
-sub-first : tie.Need-sub-first
-sub-first c = search needs
 
 put-look-requires-2 : tie.Need-put-look-requires-2
 put-look-requires-2 c κs = search needs
 
-add-put-look : tie.Need-add-put-look
-add-put-look c = search needs
-
 put-look-requires-3 : tie.Need-put-look-requires-3
 put-look-requires-3 c κs = search needs
-
-same-length-3 : tie.Need-same-length-3
-same-length-3 c = search needs
 
 returns-3 : tie.Need-returns-3
 returns-3 c =
@@ -56,14 +41,14 @@ put-field-spec =
     tie.close
     (tie.spec
     put-by-bytes-requires
-    same-length
+    (λ c. search needs)
     returns
     put-look-requires
-    same-length-2
+    (λ c. search needs)
     returns-2
-    sub-first
+    (λ c. search needs)
     put-look-requires-2
-    add-put-look
+    (λ c. search needs)
     put-look-requires-3
-    same-length-3
+    (λ c. search needs)
     returns-3)

@@ -9,23 +9,8 @@ use borrow.Author.Needs.{needs}
 use Rattle.bits.proofs.raw.put_look.Statement.{statement}
 use Rattle.bits.proofs.raw.put_look.Tie as tie
 
-sub-least : tie.Need-sub-least
-sub-least c = search needs
-
 least-requires : tie.Need-least-requires
 least-requires c κs = search needs
-
-sub-j : tie.Need-sub-j
-sub-j c = search needs
-
-mul-j : tie.Need-mul-j
-mul-j c = search needs
-
-sub-j-2 : tie.Need-sub-j-2
-sub-j-2 c = search needs
-
-sub-j-3 : tie.Need-sub-j-3
-sub-j-3 c = search needs
 
 eight-at-requires : tie.Need-eight-at-requires
 eight-at-requires c κs = search needs
@@ -35,9 +20,6 @@ spliced-requires c κs = search needs
 
 put-eight-requires : tie.Need-put-eight-requires
 put-eight-requires c κs = (omega arith, omega arith, record { byte = λ k. c .before .before .before .before .before .slice-known .given k .fits })
-
-same-length : tie.Need-same-length
-same-length c = search needs
 
 returns : tie.Need-returns
 returns c =
@@ -58,14 +40,14 @@ pub put-look-spec : {M : Type 1} → statement M
 put-look-spec =
     tie.close
     (tie.spec
-    sub-least
+    (λ c. search needs)
     least-requires
-    sub-j
-    mul-j
-    sub-j-2
-    sub-j-3
+    (λ c. search needs)
+    (λ c. search needs)
+    (λ c. search needs)
+    (λ c. search needs)
     eight-at-requires
     spliced-requires
     put-eight-requires
-    same-length
+    (λ c. search needs)
     returns)

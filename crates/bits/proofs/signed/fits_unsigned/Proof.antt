@@ -11,9 +11,6 @@ use Rattle.bits.proofs.signed.fits_unsigned.Tie as tie
 returns : tie.Need-returns
 returns c = rw (c .if1 .taken) (sym (lt-ltb (c .before .args .v) (2 ^ 64) (omega arith)))
 
-shr-if2 : tie.Need-shr-if2
-shr-if2 c = search needs
-
 returns-2 : tie.Need-returns-2
 returns-2 c = sym (lt-ltb _ _ (shr-zero _ _ (c .if2 .taken)))
 
@@ -21,4 +18,4 @@ returns-3 : tie.Need-returns-3
 returns-3 c = sym (le-ltb _ _ (shr-some _ _ (c .if2 .left)))
 
 pub fits-unsigned-spec : {M : Type 1} → statement M
-fits-unsigned-spec = tie.close (tie.spec returns shr-if2 returns-2 returns-3)
+fits-unsigned-spec = tie.close (tie.spec returns (λ c. search needs) returns-2 returns-3)

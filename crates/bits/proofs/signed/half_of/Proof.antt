@@ -5,14 +5,8 @@ use borrow.Author.Needs.{needs}
 use Rattle.bits.proofs.signed.half_of.Statement.{statement}
 use Rattle.bits.proofs.signed.half_of.Tie as tie
 
-sub-result : tie.Need-sub-result
-sub-result c = search needs
-
-shl-result : tie.Need-shl-result
-shl-result c = search needs
-
 returns : tie.Need-returns
 returns c = half-is (c .args .width) (omega arith) (omega arith)
 
 pub half-of-spec : {M : Type 1} → statement M
-half-of-spec = tie.close (tie.spec sub-result shl-result returns)
+half-of-spec = tie.close (tie.spec (λ c. search needs) (λ c. search needs) returns)

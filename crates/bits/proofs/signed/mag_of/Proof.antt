@@ -1,9 +1,8 @@
 -- Each cast is of a number that is not below zero. Assumes nothing.
 use lib.Signed.{mag}
-use Rattle.bits.proofs.SignedCode.{to-unsigned, mag-small}
+use Rattle.bits.proofs.SignedCode.{to-unsigned, mag-small, neg-cast, pos-cast}
 use mathlib.Core.Path.{ap}
 use lib.IntN.{natAbs}
-use Rattle.bits.proofs.SignedCode.{neg-cast, pos-cast}
 use Rattle.bits.proofs.signed.mag_of.Statement.{statement}
 use Rattle.bits.proofs.signed.mag_of.Tie as tie
 

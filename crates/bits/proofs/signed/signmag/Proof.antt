@@ -13,14 +13,8 @@ use Rattle.bits.proofs.signed.signmag.Tie as tie
 half-of-requires : tie.Need-half-of-requires
 half-of-requires c κs = search needs
 
-cast-result : tie.Need-cast-result
-cast-result c = search needs
-
 returns : tie.Need-returns
 returns c = toZ-pos w64 _ (omega arith) ∙ signmag-low _ _ (omega arith)
-
-cast-result-2 : tie.Need-cast-result-2
-cast-result-2 c = search needs
 
 sub-result : tie.Need-sub-result
 sub-result c = minus-cast (c .before .before .args .v - c .before .half-of .result) (omega arith) .0
@@ -32,4 +26,4 @@ returns-2 c =
 
 pub signmag-spec : {M : Type 1} → statement M
 signmag-spec =
-    tie.close (tie.spec half-of-requires cast-result returns cast-result-2 sub-result returns-2)
+    tie.close (tie.spec half-of-requires (λ c. search needs) returns (λ c. search needs) sub-result returns-2)

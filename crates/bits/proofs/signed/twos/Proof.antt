@@ -13,23 +13,8 @@ use Rattle.bits.proofs.signed.twos.Tie as tie
 half-of-requires : tie.Need-half-of-requires
 half-of-requires c κs = search needs
 
-cast-result : tie.Need-cast-result
-cast-result c = search needs
-
 returns : tie.Need-returns
 returns c = toZ-pos w64 _ (omega arith) ∙ twos-low _ _ (omega arith)
-
-sub-n : tie.Need-sub-n
-sub-n c = search needs
-
-add-n : tie.Need-add-n
-add-n c = search needs
-
-sub-n-2 : tie.Need-sub-n-2
-sub-n-2 c = search needs
-
-cast-n : tie.Need-cast-n
-cast-n c = search needs
 
 sub-result : tie.Need-sub-result
 sub-result c =
@@ -45,4 +30,13 @@ returns-2 c =
 pub twos-spec : {M : Type 1} → statement M
 twos-spec =
     tie.close
-    (tie.spec half-of-requires cast-result returns sub-n add-n sub-n-2 cast-n sub-result returns-2)
+    (tie.spec
+    half-of-requires
+    (λ c. search needs)
+    returns
+    (λ c. search needs)
+    (λ c. search needs)
+    (λ c. search needs)
+    (λ c. search needs)
+    sub-result
+    returns-2)

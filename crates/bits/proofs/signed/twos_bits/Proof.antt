@@ -18,12 +18,6 @@ mag-of-requires c κs = search needs
 half-of-requires : tie.Need-half-of-requires
 half-of-requires c κs = search needs
 
-sub-result : tie.Need-sub-result
-sub-result c = search needs
-
-add-result : tie.Need-add-result
-add-result c = search needs
-
 sub-result-2 : tie.Need-sub-result-2
 sub-result-2 c =
     let s = c .before .before .before in
@@ -51,8 +45,8 @@ twos-bits-spec =
     (tie.spec
     mag-of-requires
     half-of-requires
-    sub-result
-    add-result
+    (λ c. search needs)
+    (λ c. search needs)
     sub-result-2
     returns
     returns-2)

@@ -13,37 +13,13 @@ use Rattle.closing.proofs.reason.at.Tie as tie
 returns : tie.Need-returns
 returns c = let a = c .before .before .args in past-end (a .bytes .now) (a .place) (c .if1 .taken)
 
-shared-slice-read-if2 : tie.Need-shared-slice-read-if2
-shared-slice-read-if2 c = search needs
-
 returns-2 : tie.Need-returns-2
 returns-2 c =
     let a = c .before .before .before .before .args in
     is-not-d3 (a .bytes .now) (a .place) (c .before .before .if1 .left) (c .if2 .taken)
 
-sub-check : tie.Need-sub-check
-sub-check c = search needs
-
-part-check-start : tie.Need-part-check-start
-part-check-start c = search needs
-
-part-check-end : tie.Need-part-check-end
-part-check-end c = search needs
-
 check-requires : tie.Need-check-requires
 check-requires c κs = search needs
-
-enum-known-length : tie.Need-enum-known-length
-enum-known-length c = search needs
-
-enum-known-sent : tie.Need-enum-known-sent
-enum-known-sent c = search needs
-
-enum-told : tie.Need-enum-told
-enum-told c = search needs
-
-enum-told-2 : tie.Need-enum-told-2
-enum-told-2 c = search needs
 
 returns-3 : tie.Need-returns-3
 returns-3 c =
@@ -73,16 +49,16 @@ at-spec =
     tie.close
     (tie.spec
     returns
-    shared-slice-read-if2
+    (λ c. search needs)
     returns-2
-    sub-check
-    part-check-start
-    part-check-end
+    (λ c. search needs)
+    (λ c. search needs)
+    (λ c. search needs)
     check-requires
-    enum-known-length
-    enum-known-sent
-    enum-told
-    enum-told-2
+    (λ c. search needs)
+    (λ c. search needs)
+    (λ c. search needs)
+    (λ c. search needs)
     returns-3
     returns-4
     returns-5

@@ -13,9 +13,6 @@ past-last-requires c κs = search needs
 first-requires : tie.Need-first-requires
 first-requires c κs = search needs
 
-sub-t5 : tie.Need-sub-t5
-sub-t5 c = search needs
-
 returns-2 : tie.Need-returns-2
 returns-2 c =
     let a = c .before .before .before .before .before .args in
@@ -23,4 +20,4 @@ returns-2 c =
     (c .before .before .if1 .left) (c .before .past-last .ensures .0) (c .first .ensures .0)
 
 pub compare-spec : {M : Type 1} → statement M
-compare-spec = tie.close (tie.spec returns past-last-requires first-requires sub-t5 returns-2)
+compare-spec = tie.close (tie.spec returns past-last-requires first-requires (λ c. search needs) returns-2)

@@ -8,21 +8,6 @@ use Rattle.damage.proofs.compare.differing.Tie as tie
 compare-requires : tie.Need-compare-requires
 compare-requires c κs = search needs
 
-enum-known-start : tie.Need-enum-known-start
-enum-known-start c = search needs
-
-enum-told : tie.Need-enum-told
-enum-told c = search needs
-
-sub-result : tie.Need-sub-result
-sub-result c = search needs
-
-part-result-start : tie.Need-part-result-start
-part-result-start c = search needs
-
-part-result-end : tie.Need-part-result-end
-part-result-end c = search needs
-
 returns : tie.Need-returns
 returns c =
     let k = c .before .before .before in
@@ -35,12 +20,6 @@ add-result c =
     let a = k .before .before .before .args in
     let x = c .before .start .given in
     omega (arith, run-fits (a .sent .now) (a .received .now) (a .received .ptr) (k .compare .result) (k .compare .ensures) _ _ (x .1))
-
-sub-result-2 : tie.Need-sub-result-2
-sub-result-2 c = search needs
-
-part-result-start-2 : tie.Need-part-result-start-2
-part-result-start-2 c = search needs
 
 part-result-end-2 : tie.Need-part-result-end-2
 part-result-end-2 c =
@@ -61,14 +40,14 @@ differing-spec =
     tie.close
     (tie.spec
     compare-requires
-    enum-known-start
-    enum-told
-    sub-result
-    part-result-start
-    part-result-end
+    (λ c. search needs)
+    (λ c. search needs)
+    (λ c. search needs)
+    (λ c. search needs)
+    (λ c. search needs)
     returns
     add-result
-    sub-result-2
-    part-result-start-2
+    (λ c. search needs)
+    (λ c. search needs)
     part-result-end-2
     returns-2)

@@ -4,28 +4,13 @@ use Rattle.frames.proofs.FateLaws.{checked-all, tells-not-d3, tells-sum
 use Rattle.frames.proofs.fate.skipped.Statement.{statement}
 use Rattle.frames.proofs.fate.skipped.Tie as tie
 
-shared-slice-read-if1 : tie.Need-shared-slice-read-if1
-shared-slice-read-if1 c = search needs
-
 returns : tie.Need-returns
 returns c = λ w e.
     let a = c .before .before .before .args in
     tells-not-d3 (a .recording .now) (a .place) w e (c .if1 .taken)
 
-sub-check : tie.Need-sub-check
-sub-check c = search needs
-
-part-check-start : tie.Need-part-check-start
-part-check-start c = search needs
-
-part-check-end : tie.Need-part-check-end
-part-check-end c = search needs
-
 check-requires : tie.Need-check-requires
 check-requires c κs = search needs
-
-enum-known-sent : tie.Need-enum-known-sent
-enum-known-sent c = search needs
 
 returns-2 : tie.Need-returns-2
 returns-2 c = λ w e.
@@ -41,12 +26,12 @@ pub skipped-spec : {M : Type 1} → statement M
 skipped-spec =
     tie.close
     (tie.spec
-    shared-slice-read-if1
+    (λ c. search needs)
     returns
-    sub-check
-    part-check-start
-    part-check-end
+    (λ c. search needs)
+    (λ c. search needs)
+    (λ c. search needs)
     check-requires
-    enum-known-sent
+    (λ c. search needs)
     returns-2
     returns-3)

@@ -25,9 +25,6 @@ loop-holds c = (omega arith, refl)
 next-frame-requires : tie.Need-next-frame-requires Inv-loop μ-loop
 next-frame-requires c κs = search needs
 
-enum-known-start : tie.Need-enum-known-start Inv-loop μ-loop
-enum-known-start c = search needs
-
 skipped-requires : tie.Need-skipped-requires Inv-loop μ-loop
 skipped-requires c κs = search needs
 
@@ -55,9 +52,6 @@ returns-2 c =
     let v = c .before .before .start .given in
     let x = stops rtcm (a .recording .now) rtcm-lawful (w .from) (omega (arith, w .inv .0, c .before .before .before .before .before .before .before .pre)) (v .0 .0) (sym (c .before .before .before .before .next-frame .ensures) ∙ ap toldNext (v .1)) in
     ap Accepted (held-there (a .recording .now) (a .place) (w .from) (v .0 .0) x (omega (arith, c .if1 .left)) ∙ w .inv .1)
-
-enum-known-start-2 : tie.Need-enum-known-start-2 Inv-loop μ-loop
-enum-known-start-2 c = search needs
 
 skipped-requires-2 : tie.Need-skipped-requires-2 Inv-loop μ-loop
 skipped-requires-2 c κs = search needs
@@ -119,12 +113,12 @@ walk-spec =
     μ-loop
     loop-holds
     next-frame-requires
-    enum-known-start
+    (λ c. search needs)
     skipped-requires
     returns
     sub-t10
     returns-2
-    enum-known-start-2
+    (λ c. search needs)
     skipped-requires-2
     returns-3
     add-if3

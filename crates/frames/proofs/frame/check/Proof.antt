@@ -8,43 +8,19 @@ use Rattle.frames.proofs.frame.check.Tie as tie
 returns : tie.Need-returns
 returns c = too-few _ (omega arith)
 
-shared-slice-read-if2 : tie.Need-shared-slice-read-if2
-shared-slice-read-if2 c = search needs
-
 returns-2 : tie.Need-returns-2
 returns-2 c = no-start _ (omega arith) (c .if2 .taken)
 
 three-at-requires : tie.Need-three-at-requires
 three-at-requires c κs = search needs
 
-cast-n : tie.Need-cast-n
-cast-n c = search needs
-
-add-if3 : tie.Need-add-if3
-add-if3 c = search needs
-
 returns-3 : tie.Need-returns-3
 returns-3 c =
     let s = c .before .before .before .before .before .before .args .bytes .now in
     cut-at s _ (omega arith) (c .before .before .if2 .left) (length-at s _ (c .before .three-at .ensures .0)) (omega arith)
 
-add-three-at : tie.Need-add-three-at
-add-three-at c = search needs
-
 three-at-requires-2 : tie.Need-three-at-requires-2
 three-at-requires-2 c κs = search needs
-
-add-crc24q : tie.Need-add-crc24q
-add-crc24q c = search needs
-
-sub-crc24q : tie.Need-sub-crc24q
-sub-crc24q c = search needs
-
-part-crc24q-start : tie.Need-part-crc24q-start
-part-crc24q-start c = search needs
-
-part-crc24q-end : tie.Need-part-crc24q-end
-part-crc24q-end c = search needs
 
 crc24q-requires : tie.Need-crc24q-requires
 crc24q-requires c κs = search needs
@@ -54,21 +30,6 @@ returns-4 c =
     let s = c .before .before .before .before .before .before .before .before .before .before .args .bytes .now in
     differ-at s _ (omega arith) (c .before .before .before .before .before .before .if2 .left) (length-at s _ (c .before .before .before .before .before .three-at .ensures .0))
     _ _ (omega arith) (c .before .crc24q .ensures) (c .before .before .before .three-at2 .ensures .0) (c .if4 .taken)
-
-add-t5 : tie.Need-add-t5
-add-t5 c = search needs
-
-add-number-of : tie.Need-add-number-of
-add-number-of c = search needs
-
-sub-number-of : tie.Need-sub-number-of
-sub-number-of c = search needs
-
-part-number-of-start : tie.Need-part-number-of-start
-part-number-of-start c = search needs
-
-part-number-of-end : tie.Need-part-number-of-end
-part-number-of-end c = search needs
 
 number-of-requires : tie.Need-number-of-requires
 number-of-requires c κs = search needs
@@ -84,24 +45,24 @@ check-spec =
     tie.close
     (tie.spec
     returns
-    shared-slice-read-if2
+    (λ c. search needs)
     returns-2
     three-at-requires
-    cast-n
-    add-if3
+    (λ c. search needs)
+    (λ c. search needs)
     returns-3
-    add-three-at
+    (λ c. search needs)
     three-at-requires-2
-    add-crc24q
-    sub-crc24q
-    part-crc24q-start
-    part-crc24q-end
+    (λ c. search needs)
+    (λ c. search needs)
+    (λ c. search needs)
+    (λ c. search needs)
     crc24q-requires
     returns-4
-    add-t5
-    add-number-of
-    sub-number-of
-    part-number-of-start
-    part-number-of-end
+    (λ c. search needs)
+    (λ c. search needs)
+    (λ c. search needs)
+    (λ c. search needs)
+    (λ c. search needs)
     number-of-requires
     returns-5)

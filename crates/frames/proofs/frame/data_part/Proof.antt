@@ -10,18 +10,6 @@ use Rattle.frames.proofs.frame.data_part.Tie as tie
 check-requires : tie.Need-check-requires
 check-requires c κs = search needs
 
-enum-known-data : tie.Need-enum-known-data
-enum-known-data c = search needs
-
-sub-result : tie.Need-sub-result
-sub-result c = search needs
-
-part-result-start : tie.Need-part-result-start
-part-result-start c = search needs
-
-part-result-end : tie.Need-part-result-end
-part-result-end c = search needs
-
 returns : tie.Need-returns
 returns c =
     let b = c .before .before in
@@ -34,12 +22,6 @@ add-result c =
     let a = b .before .before .args .bytes in
     let x = c .before .«data» .given in
     omega (arith, frame-fits (a .ptr) (a .now) (b .check .result) (b .check .ensures) _ _ _ _ (x .1) .2)
-
-sub-result-2 : tie.Need-sub-result-2
-sub-result-2 c = search needs
-
-part-result-start-2 : tie.Need-part-result-start-2
-part-result-start-2 c = search needs
 
 part-result-end-2 : tie.Need-part-result-end-2
 part-result-end-2 c =
@@ -60,13 +42,13 @@ data-part-spec =
     tie.close
     (tie.spec
     check-requires
-    enum-known-data
-    sub-result
-    part-result-start
-    part-result-end
+    (λ c. search needs)
+    (λ c. search needs)
+    (λ c. search needs)
+    (λ c. search needs)
     returns
     add-result
-    sub-result-2
-    part-result-start-2
+    (λ c. search needs)
+    (λ c. search needs)
     part-result-end-2
     returns-2)

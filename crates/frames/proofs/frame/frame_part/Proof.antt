@@ -10,29 +10,11 @@ use Rattle.frames.proofs.frame.frame_part.Tie as tie
 check-requires : tie.Need-check-requires
 check-requires c κs = search needs
 
-enum-known-length : tie.Need-enum-known-length
-enum-known-length c = search needs
-
-sub-result : tie.Need-sub-result
-sub-result c = search needs
-
-part-result-start : tie.Need-part-result-start
-part-result-start c = search needs
-
-part-result-end : tie.Need-part-result-end
-part-result-end c = search needs
-
 returns : tie.Need-returns
 returns c =
     let b = c .before .before in
     let a = b .before .before .args .bytes in
     refused-part (a .ptr) (a .now) (b .check .result) (b .check .ensures) 0 (λ w. w .length) (c .before .match .keys2)
-
-sub-result-2 : tie.Need-sub-result-2
-sub-result-2 c = search needs
-
-part-result-start-2 : tie.Need-part-result-start-2
-part-result-start-2 c = search needs
 
 part-result-end-2 : tie.Need-part-result-end-2
 part-result-end-2 c =
@@ -53,12 +35,12 @@ frame-part-spec =
     tie.close
     (tie.spec
     check-requires
-    enum-known-length
-    sub-result
-    part-result-start
-    part-result-end
+    (λ c. search needs)
+    (λ c. search needs)
+    (λ c. search needs)
+    (λ c. search needs)
     returns
-    sub-result-2
-    part-result-start-2
+    (λ c. search needs)
+    (λ c. search needs)
     part-result-end-2
     returns-2)

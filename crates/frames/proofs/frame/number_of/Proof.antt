@@ -8,26 +8,11 @@ use Rattle.frames.proofs.frame.number_of.Tie as tie
 returns : tie.Need-returns
 returns c = number-absent (c .before .before .args .«data» .now) (omega arith)
 
-shared-slice-read-wide : tie.Need-shared-slice-read-wide
-shared-slice-read-wide c = search needs
-
 wide-requires : tie.Need-wide-requires
 wide-requires c κs = search needs
 
-mul-t7 : tie.Need-mul-t7
-mul-t7 c = search needs
-
-shared-slice-read-wide-2 : tie.Need-shared-slice-read-wide-2
-shared-slice-read-wide-2 c = search needs
-
 wide-requires-2 : tie.Need-wide-requires-2
 wide-requires-2 c κs = search needs
-
-add-t11 : tie.Need-add-t11
-add-t11 c = search needs
-
-cast-t13 : tie.Need-cast-t13
-cast-t13 c = search needs
 
 returns-2 : tie.Need-returns-2
 returns-2 c =
@@ -39,11 +24,11 @@ number-of-spec =
     tie.close
     (tie.spec
     returns
-    shared-slice-read-wide
+    (λ c. search needs)
     wide-requires
-    mul-t7
-    shared-slice-read-wide-2
+    (λ c. search needs)
+    (λ c. search needs)
     wide-requires-2
-    add-t11
-    cast-t13
+    (λ c. search needs)
+    (λ c. search needs)
     returns-2)

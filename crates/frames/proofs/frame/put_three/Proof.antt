@@ -9,26 +9,8 @@ use Rattle.bits.specs.Crc.{threeBytes}
 use Rattle.frames.proofs.frame.put_three.Statement.{statement}
 use Rattle.frames.proofs.frame.put_three.Tie as tie
 
-cast-out : tie.Need-cast-out
-cast-out c = search needs
-
-slice-write-out : tie.Need-slice-write-out
-slice-write-out c = search needs
-
-cast-out-2 : tie.Need-cast-out-2
-cast-out-2 c = search needs
-
-add-out : tie.Need-add-out
-add-out c = search needs
-
 slice-write-out-2 : tie.Need-slice-write-out-2
 slice-write-out-2 c = simp length-set (omega arith)
-
-cast-out-3 : tie.Need-cast-out-3
-cast-out-3 c = search needs
-
-add-out-2 : tie.Need-add-out-2
-add-out-2 c = search needs
 
 slice-write-out-3 : tie.Need-slice-write-out-3
 slice-write-out-3 c = simp length-set (omega arith)
@@ -48,13 +30,13 @@ pub put-three-spec : {M : Type 1} → statement M
 put-three-spec =
     tie.close
     (tie.spec
-    cast-out
-    slice-write-out
-    cast-out-2
-    add-out
+    (λ c. search needs)
+    (λ c. search needs)
+    (λ c. search needs)
+    (λ c. search needs)
     slice-write-out-2
-    cast-out-3
-    add-out-2
+    (λ c. search needs)
+    (λ c. search needs)
     slice-write-out-3
     same-length
     returns)

@@ -13,20 +13,8 @@ use Rattle.frames.proofs.frame.write.Tie as tie
 returns : tie.Need-returns
 returns c = too-long _ _ (omega arith)
 
-add-if2 : tie.Need-add-if2
-add-if2 c = search needs
-
-add-t8 : tie.Need-add-t8
-add-t8 c = search needs
-
 returns-2 : tie.Need-returns-2
 returns-2 c = no-room _ _ (omega arith) (omega arith)
-
-cast-put-three : tie.Need-cast-put-three
-cast-put-three c = search needs
-
-add-put-three : tie.Need-add-put-three
-add-put-three c = search needs
 
 put-three-requires : tie.Need-put-three-requires
 put-three-requires c κs = search needs
@@ -34,32 +22,11 @@ put-three-requires c κs = search needs
 put-at-requires : tie.Need-put-at-requires
 put-at-requires c κs = search needs
 
-add-crc24q : tie.Need-add-crc24q
-add-crc24q c = search needs
-
-sub-crc24q : tie.Need-sub-crc24q
-sub-crc24q c = search needs
-
-part-crc24q-start : tie.Need-part-crc24q-start
-part-crc24q-start c = search needs
-
-part-crc24q-end : tie.Need-part-crc24q-end
-part-crc24q-end c = search needs
-
 crc24q-requires : tie.Need-crc24q-requires
 crc24q-requires c κs = search needs
 
-add-put-three-2 : tie.Need-add-put-three-2
-add-put-three-2 c = search needs
-
 put-three-requires-2 : tie.Need-put-three-requires-2
 put-three-requires-2 c κs = (omega arith, sum-below _ _ (c .before .crc24q .ensures))
-
-add-t6 : tie.Need-add-t6
-add-t6 c = search needs
-
-same-length : tie.Need-same-length
-same-length c = search needs
 
 returns-3 : tie.Need-returns-3
 returns-3 c =
@@ -75,20 +42,20 @@ write-spec =
     tie.close
     (tie.spec
     returns
-    add-if2
-    add-t8
+    (λ c. search needs)
+    (λ c. search needs)
     returns-2
-    cast-put-three
-    add-put-three
+    (λ c. search needs)
+    (λ c. search needs)
     put-three-requires
     put-at-requires
-    add-crc24q
-    sub-crc24q
-    part-crc24q-start
-    part-crc24q-end
+    (λ c. search needs)
+    (λ c. search needs)
+    (λ c. search needs)
+    (λ c. search needs)
     crc24q-requires
-    add-put-three-2
+    (λ c. search needs)
     put-three-requires-2
-    add-t6
-    same-length
+    (λ c. search needs)
+    (λ c. search needs)
     returns-3)

@@ -81,9 +81,6 @@ loop-again c =
     let l = c .before .before .before .before .before .before .before .before .loop in
     (passes _ _ _ _ _ _ _ _ _ _ _ _ _ _ (at-start _ _ _ _ _ _ _ _ _ _ _ _ _ _ (l .inv .0) (c .before .before .before .before .before .before .before .loop-test .taken) _ (c .before .before .before .before .before .before .next-start .ensures)) (c .before .before .before .before .before .before .before .loop-test .taken) _ q, omega (arith, l .inv .1, c .before .before .before .before .before .before .next-start .ensures .from, failed-few _ _ _ _ _ _ _ _ _ _ _ _ _ _ (at-start _ _ _ _ _ _ _ _ _ _ _ _ _ _ (l .inv .0) (c .before .before .before .before .before .before .before .loop-test .taken) _ (c .before .before .before .before .before .before .next-start .ensures)) (c .before .before .before .before .before .before .before .loop-test .taken) _ q))
 
-enum-known-n-2 : tie.Need-enum-known-n-2 Inv-loop μ-loop
-enum-known-n-2 c = search needs
-
 -- the frame that was found is listed
 add-ended : tie.Need-add-ended Inv-loop μ-loop
 add-ended c =
@@ -165,9 +162,6 @@ returns c =
     let a = c .before .before .before .before .before .before .before .before .before .args in
     tells (c .ended .ensures) (ends-all _ _ _ _ _ _ _ _ _ _ _ _ _ _ (at-start _ _ _ _ _ _ _ _ _ _ _ _ _ _ (c .before .before .before .before .loop .inv .0) (c .before .before .before .loop-test .taken) _ (c .before .before .next-start .ensures)) (c .before .before .before .loop-test .taken) (omega (arith, length-append (a .held .now) (a .piece .now))))
 
-enum-told : tie.Need-enum-told Inv-loop μ-loop
-enum-told c = search needs
-
 ended-requires-2 : tie.Need-ended-requires-2 Inv-loop μ-loop
 ended-requires-2 c κs = search needs
 
@@ -185,9 +179,6 @@ add-i c = let p = c .before .before .before .before .before .before .before .bef
 
 loop-less : tie.Need-loop-less Inv-loop μ-loop
 loop-less c = omega (arith, c .before .before .before .before .before .before .next-start .ensures .from)
-
-enum-known-n : tie.Need-enum-known-n Inv-loop μ-loop
-enum-known-n c = search needs
 
 cast-starts : tie.Need-cast-starts Inv-loop μ-loop
 cast-starts c = let p = c .before .before .before .before .before .before .before .before .before .before .before .before .pre in omega (arith, p .held, p .piece)
@@ -232,12 +223,12 @@ list-plain-spec =
     same-length-2
     returns
     candidate-at-requires
-    enum-told
+    (λ c. search needs)
     ended-requires-2
     same-length-3
     same-length-4
     returns-2
-    enum-known-n
+    (λ c. search needs)
     add-failed
     add-i
     mul-if2
@@ -249,7 +240,7 @@ list-plain-spec =
     returns-3
     loop-less
     loop-again
-    enum-known-n-2
+    (λ c. search needs)
     cast-starts
     mul-starts
     slice-write-starts

@@ -3,7 +3,7 @@ use mathlib.Core.Path.{_≡_, refl, _∙_}
 use Prim.Native.Nat.{_+_, _*_, _%_}
 use native.Mathlib.Omega.{arith}
 use Rattle.bits.specs.Field.{field}
-use Rattle.frames.proofs.FrameLaws.{three-field}
+use Rattle.bits.proofs.ThreeLaws.{three-field}
 use Rattle.frames.proofs.CandidateLaws.{length-here}
 use borrow.Author.Needs.{needs}
 use Rattle.frames.proofs.many.data_length.Statement.{statement}

@@ -5,17 +5,11 @@ use Rattle.frames.proofs.SeamLaws.{at-left, at-right}
 use Rattle.frames.proofs.scan.byte_at.Statement.{statement}
 use Rattle.frames.proofs.scan.byte_at.Tie as tie
 
-shared-slice-read-wide : tie.Need-shared-slice-read-wide
-shared-slice-read-wide c = search needs
-
 wide-requires : tie.Need-wide-requires
 wide-requires c κs = search needs
 
 returns : tie.Need-returns
 returns c = let a = c .before .before .before .before .before .args in (c .wide .ensures .0 ∙ at-left (a .held .now) (a .piece .now) _ (c .before .before .if1 .taken), c .wide .ensures .1)
-
-shared-slice-read-wide-2 : tie.Need-shared-slice-read-wide-2
-shared-slice-read-wide-2 c = search needs
 
 wide-requires-2 : tie.Need-wide-requires-2
 wide-requires-2 c κs = search needs
@@ -27,9 +21,9 @@ pub byte-at-spec : {M : Type 1} → statement M
 byte-at-spec =
     tie.close
     (tie.spec
-    shared-slice-read-wide
+    (λ c. search needs)
     wide-requires
     returns
-    shared-slice-read-wide-2
+    (λ c. search needs)
     wide-requires-2
     returns-2)

@@ -28,26 +28,11 @@ next-in-requires c κs = search needs
 returns : tie.Need-returns Inv-loop μ-loop
 returns c = let a = c .before .before .before .before .before .args in past-all (framingOf (a .mode)) (a .held .now) _ (past-start (framingOf (a .mode)) (a .held .now) (lawful (a .mode)) (startsIn (a .mode)) (mode-starts (a .mode)) _ (c .before .before .before .loop .inv) _ (c .before .next-in .ensures)) (omega arith)
 
-sub-candidate-at : tie.Need-sub-candidate-at Inv-loop μ-loop
-sub-candidate-at c = search needs
-
-part-candidate-at-start : tie.Need-part-candidate-at-start Inv-loop μ-loop
-part-candidate-at-start c = search needs
-
-part-candidate-at-end : tie.Need-part-candidate-at-end Inv-loop μ-loop
-part-candidate-at-end c = search needs
-
 candidate-at-requires : tie.Need-candidate-at-requires Inv-loop μ-loop
 candidate-at-requires c κs = let a = c .before .before .before .before .before .before .args in (omega arith, omega arith, ap (λ z. startsIn (a .mode) (getD z (c .before .before .next-in .result) 0)) (append-nil (a .held .now)) ∙ c .before .before .next-in .ensures .there (omega arith))
 
-enum-known-n : tie.Need-enum-known-n Inv-loop μ-loop
-enum-known-n c = search needs
-
 returns-2 : tie.Need-returns-2 Inv-loop μ-loop
 returns-2 c = let a = c .before .before .before .before .before .before .before .before .before .before .args in past-good (framingOf (a .mode)) (a .held .now) (lawful (a .mode)) (startsIn (a .mode)) (mode-starts (a .mode)) _ (c .before .before .before .before .before .before .before .before .loop .inv) _ (c .before .before .before .before .before .before .next-in .ensures) (omega arith) _ (sym (c .before .n .given .1) ∙ c .before .before .before .candidate-at .ensures)
-
-enum-told : tie.Need-enum-told Inv-loop μ-loop
-enum-told c = search needs
 
 add-i : tie.Need-add-i Inv-loop μ-loop
 add-i c = record { fits = omega arith }
@@ -57,9 +42,6 @@ loop-less c = omega (arith, c .before .before .before .before .before .next-in .
 
 loop-again : tie.Need-loop-again Inv-loop μ-loop
 loop-again c = let a = c .before .before .before .before .before .before .before .before .before .args in past-bad (framingOf (a .mode)) (a .held .now) (lawful (a .mode)) (startsIn (a .mode)) (mode-starts (a .mode)) _ (c .before .before .before .before .before .before .before .loop .inv) _ (c .before .before .before .before .before .next-in .ensures) (omega arith) _ (sym (c .enum-told .given .1) ∙ c .before .before .candidate-at .ensures)
-
-enum-told-2 : tie.Need-enum-told-2 Inv-loop μ-loop
-enum-told-2 c = search needs
 
 add-i-2 : tie.Need-add-i-2 Inv-loop μ-loop
 add-i-2 c = record { fits = omega arith }
@@ -82,17 +64,17 @@ find-at-end-spec =
     loop-holds
     next-in-requires
     returns
-    sub-candidate-at
-    part-candidate-at-start
-    part-candidate-at-end
+    (λ c. search needs)
+    (λ c. search needs)
+    (λ c. search needs)
     candidate-at-requires
-    enum-known-n
+    (λ c. search needs)
     returns-2
-    enum-told
+    (λ c. search needs)
     add-i
     loop-less
     loop-again
-    enum-told-2
+    (λ c. search needs)
     add-i-2
     loop-less-2
     loop-again-2

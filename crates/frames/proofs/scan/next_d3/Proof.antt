@@ -17,9 +17,6 @@ Inv-loop part from i₀ i = (from ≤ i) × (i ≤ length part) × ((k : ℕ) �
 abbrev μ-loop : tie.MeasureT-loop
 μ-loop part from i₀ i = length part - i
 
-shared-slice-read-if2 : tie.Need-shared-slice-read-if2 Inv-loop μ-loop
-shared-slice-read-if2 c = search needs
-
 returns : tie.Need-returns Inv-loop μ-loop
 returns c =
     let h = c .before .before .before .before .pre in
@@ -27,9 +24,6 @@ returns c =
 
 loop-holds : tie.Need-loop-holds Inv-loop μ-loop
 loop-holds c = (omega arith, c .before .before .pre, λ k a b. absurd (omega arith))
-
-sub-loop : tie.Need-sub-loop Inv-loop μ-loop
-sub-loop c = search needs
 
 has-requires : tie.Need-has-requires Inv-loop μ-loop
 has-requires c κs = search needs
@@ -42,9 +36,6 @@ returns-2 c =
     let a = c .before .before .before .before .before .before .before .args in
     let l = c .before .before .before .before .loop in
     first-from startsRtcm (a .part .now) (a .from) (l .i) (c .near-d3 .result) (l .inv .0) (l .inv .2) (c .near-d3 .ensures)
-
-add-i : tie.Need-add-i Inv-loop μ-loop
-add-i c = search needs
 
 loop-less : tie.Need-loop-less Inv-loop μ-loop
 loop-less c = search needs
@@ -70,14 +61,14 @@ next-d3-spec =
     (tie.spec
     Inv-loop
     μ-loop
-    shared-slice-read-if2
+    (λ c. search needs)
     returns
     loop-holds
-    sub-loop
+    (λ c. search needs)
     has-requires
     near-d3-requires
     returns-2
-    add-i
+    (λ c. search needs)
     loop-less
     loop-again
     near-d3-requires-2

@@ -19,9 +19,6 @@ abbrev μ-loop : tie.MeasureT-loop
 loop-holds : tie.Need-loop-holds Inv-loop μ-loop
 loop-holds c = (omega arith, c .before .pre, λ k a b. absurd (omega arith))
 
-sub-loop : tie.Need-sub-loop Inv-loop μ-loop
-sub-loop c = search needs
-
 has-requires : tie.Need-has-requires Inv-loop μ-loop
 has-requires c κs = search needs
 
@@ -45,9 +42,6 @@ returns-2 c =
     let a = c .before .before .before .before .before .before .before .before .args in
     let l = c .before .before .before .before .before .before .loop in
     first-from startsEither (a .part .now) (a .from) (l .i) (c .near-either2 .result) (l .inv .0) (l .inv .2) (c .near-either2 .ensures)
-
-add-i : tie.Need-add-i Inv-loop μ-loop
-add-i c = search needs
 
 loop-less : tie.Need-loop-less Inv-loop μ-loop
 loop-less c = search needs
@@ -74,14 +68,14 @@ next-either-spec =
     Inv-loop
     μ-loop
     loop-holds
-    sub-loop
+    (λ c. search needs)
     has-requires
     near-either-requires
     returns
     has-requires-2
     near-either-requires-2
     returns-2
-    add-i
+    (λ c. search needs)
     loop-less
     loop-again
     near-either-requires-3

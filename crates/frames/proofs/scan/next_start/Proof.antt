@@ -9,9 +9,6 @@ use Rattle.frames.proofs.scan.next_start.Tie as tie
 next-in-requires : tie.Need-next-in-requires
 next-in-requires c κs = search needs
 
-add-result : tie.Need-add-result
-add-result c = search needs
-
 returns : tie.Need-returns
 returns c = let a = c .before .before .before .before .args in start-right (startsIn (a .mode)) (a .held .now) (a .piece .now) _ _ (omega arith) (c .next-in .ensures)
 
@@ -24,9 +21,6 @@ returns-2 c = let a = c .before .before .before .before .before .args in start-l
 next-in-requires-3 : tie.Need-next-in-requires-3
 next-in-requires-3 c κs = search needs
 
-add-result-2 : tie.Need-add-result-2
-add-result-2 c = search needs
-
 returns-3 : tie.Need-returns-3
 returns-3 c = let a = c .before .before .before .before .before .before .args in start-both (startsIn (a .mode)) (a .held .now) (a .piece .now) _ _ _ (omega arith) (c .before .before .next-in2 .ensures) (c .next-in3 .ensures)
 
@@ -35,10 +29,10 @@ next-start-spec =
     tie.close
     (tie.spec
     next-in-requires
-    add-result
+    (λ c. search needs)
     returns
     next-in-requires-2
     returns-2
     next-in-requires-3
-    add-result-2
+    (λ c. search needs)
     returns-3)

@@ -25,9 +25,6 @@ module _ (c : tie.After-searched2) where
   there : CanHold area count size (Frame (c .searched2 .given .0 .0) (c .searched2 .given .0 .1 .0) (c .searched2 .given .0 .1 .1 .0))
   there = subst (CanHold area count size) (c .searched2 .given .1) (c .before .before .before .before .before .pre .5)
 
-enum-known-searched : tie.Need-enum-known-searched
-enum-known-searched c = search needs
-
 slide-requires : tie.Need-slide-requires
 slide-requires c κs =
     let x = c .before .before .before .before .before .before .before in
@@ -37,26 +34,8 @@ slide-requires c κs =
 onwards-requires : tie.Need-onwards-requires
 onwards-requires c κs = search needs
 
-enum-known-searched-2 : tie.Need-enum-known-searched-2
-enum-known-searched-2 c = search needs
-
-sub-front : tie.Need-sub-front
-sub-front c = search needs
-
-part-front-start : tie.Need-part-front-start
-part-front-start c = search needs
-
 part-front-end : tie.Need-part-front-end
 part-front-end c = there (c .before) .0
-
-sub-gather : tie.Need-sub-gather
-sub-gather c = search needs
-
-part-gather-start : tie.Need-part-gather-start
-part-gather-start c = search needs
-
-part-gather-end : tie.Need-part-gather-end
-part-gather-end c = search needs
 
 gather-requires : tie.Need-gather-requires
 gather-requires c κs = let k = there (c .before .before .before .before .before) in (omega (arith, k), omega (arith, k), omega (arith, k))
@@ -67,23 +46,14 @@ add-slide c = let k = there (c .before .before .before .before .before .before .
 slide-requires-2 : tie.Need-slide-requires-2
 slide-requires-2 c κs = let k = there (c .before .before .before .before .before .before .before .before .before) in (omega (arith, k), omega (arith, k), omega (arith, k), omega (arith, k))
 
-sub-place : tie.Need-sub-place
-sub-place c = search needs
-
 add-place : tie.Need-add-place
 add-place c = let k = there (c .before .before .before .before .before .before .before .before .before .before .before .before .before) in record { fits = omega (arith, k) }
-
-slice-read-kind-of : tie.Need-slice-read-kind-of
-slice-read-kind-of c = search needs
 
 kind-of-requires : tie.Need-kind-of-requires
 kind-of-requires c κs = search needs
 
 onwards-requires-2 : tie.Need-onwards-requires-2
 onwards-requires-2 c κs = let k = there (c .before .before .before .before .before .before .before .before .before .before .before .before .before .before .before) in omega (arith, k)
-
-same-length : tie.Need-same-length
-same-length c = search needs
 
 returns : tie.Need-returns
 returns c =
@@ -92,12 +62,6 @@ returns c =
     let u = c .before .before .before .slide .ensures in
     moved-more (a .held .now) (known (a .scanner)) (a .piece .now) (a .out .now) (f .0 .0) _ _ _ (u .0) (c .onwards .ensures) (u .1)
     ∙ ap (moved (a .held .now) (known (a .scanner)) (a .piece .now) (a .out .now)) (sym (f .1))
-
-same-length-2 : tie.Need-same-length-2
-same-length-2 c = search needs
-
-same-length-3 : tie.Need-same-length-3
-same-length-3 c = search needs
 
 returns-2 : tie.Need-returns-2
 returns-2 c =
@@ -112,26 +76,26 @@ pub carry-out-spec : {M : Type 1} → statement M
 carry-out-spec =
     tie.close
     (tie.spec
-    enum-known-searched
+    (λ c. search needs)
     slide-requires
     onwards-requires
-    enum-known-searched-2
-    sub-front
-    part-front-start
+    (λ c. search needs)
+    (λ c. search needs)
+    (λ c. search needs)
     part-front-end
-    sub-gather
-    part-gather-start
-    part-gather-end
+    (λ c. search needs)
+    (λ c. search needs)
+    (λ c. search needs)
     gather-requires
     add-slide
     slide-requires-2
-    sub-place
+    (λ c. search needs)
     add-place
-    slice-read-kind-of
+    (λ c. search needs)
     kind-of-requires
     onwards-requires-2
-    same-length
+    (λ c. search needs)
     returns
-    same-length-2
-    same-length-3
+    (λ c. search needs)
+    (λ c. search needs)
     returns-2)

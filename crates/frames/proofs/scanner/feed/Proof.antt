@@ -49,23 +49,11 @@ returns-5 c = sym (wrong-mode _ _ _ _ _ (omega arith) (omega arith) (omega arith
 returns-6 : tie.Need-returns-6
 returns-6 c = sym (long-piece _ _ _ _ _ (omega arith) (omega arith) (omega arith) (omega arith) (omega arith) (omega arith))
 
-add-if7 : tie.Need-add-if7
-add-if7 c = search needs
-
 returns-7 : tie.Need-returns-7
 returns-7 c = sym (past-limit _ _ _ _ _ (omega arith) (omega arith) (omega arith) (omega arith) (omega arith) (omega arith) (omega arith))
 
 returns-8 : tie.Need-returns-8
 returns-8 c = sym (small-output _ _ _ _ _ (omega arith) (omega arith) (omega arith) (omega arith) (omega arith) (omega arith) (omega arith) (omega arith))
-
-sub-find-frame : tie.Need-sub-find-frame
-sub-find-frame c = search needs
-
-part-find-frame-start : tie.Need-part-find-frame-start
-part-find-frame-start c = search needs
-
-part-find-frame-end : tie.Need-part-find-frame-end
-part-find-frame-end c = search needs
 
 find-frame-requires : tie.Need-find-frame-requires
 find-frame-requires c κs = search needs
@@ -74,12 +62,6 @@ carry-out-requires : tie.Need-carry-out-requires
 carry-out-requires c κs =
     let w = c .before .before in
     (omega arith, omega arith, omega arith, omega arith, omega arith, searched-can-hold (mode w) (area w) (scanner w) (piece w) (out w) (fits w) _ (w .find-frame .ensures))
-
-same-length : tie.Need-same-length
-same-length c = search needs
-
-same-length-2 : tie.Need-same-length-2
-same-length-2 c = search needs
 
 returns-9 : tie.Need-returns-9
 returns-9 c =
@@ -96,14 +78,14 @@ feed-spec =
     returns-4
     returns-5
     returns-6
-    add-if7
+    (λ c. search needs)
     returns-7
     returns-8
-    sub-find-frame
-    part-find-frame-start
-    part-find-frame-end
+    (λ c. search needs)
+    (λ c. search needs)
+    (λ c. search needs)
     find-frame-requires
     carry-out-requires
-    same-length
-    same-length-2
+    (λ c. search needs)
+    (λ c. search needs)
     returns-9)

@@ -7,20 +7,11 @@ use borrow.Author.Needs.{needs}
 use Rattle.frames.proofs.ubx.claim.Statement.{statement}
 use Rattle.frames.proofs.ubx.claim.Tie as tie
 
-add-left : tie.Need-add-left
-add-left c = search needs
-
-sub-left : tie.Need-sub-left
-sub-left c = search needs
-
 returns : tie.Need-returns
 returns c =
     let a = c .before .before .before .args in
     let l = length-append (a .held .now) (a .piece .now) in
     ubx-alone _ (a .i) (c .before .before .before .pre .2) (omega (arith, l)) (omega (arith, l))
-
-add-byte-at : tie.Need-add-byte-at
-add-byte-at c = search needs
 
 byte-at-requires : tie.Need-byte-at-requires
 byte-at-requires c κs = search needs
@@ -37,26 +28,11 @@ returns-3 c =
     let l = length-append (a .held .now) (a .piece .now) in
     ubx-few _ (a .i) (c .before .before .before .before .before .before .pre .2) (sym (c .before .before .byte-at .ensures .0) ∙ c .before .if2 .left) (omega (arith, l))
 
-add-byte-at-2 : tie.Need-add-byte-at-2
-add-byte-at-2 c = search needs
-
 byte-at-requires-2 : tie.Need-byte-at-requires-2
 byte-at-requires-2 c κs = search needs
 
-add-byte-at-3 : tie.Need-add-byte-at-3
-add-byte-at-3 c = search needs
-
 byte-at-requires-3 : tie.Need-byte-at-requires-3
 byte-at-requires-3 c κs = search needs
-
-mul-n : tie.Need-mul-n
-mul-n c = search needs
-
-add-n : tie.Need-add-n
-add-n c = search needs
-
-cast-n : tie.Need-cast-n
-cast-n c = search needs
 
 returns-4 : tie.Need-returns-4
 returns-4 c =
@@ -64,17 +40,11 @@ returns-4 c =
     let l = length-append (a .held .now) (a .piece .now) in
     ubx-long _ (a .i) (c .before .before .before .before .before .before .before .before .before .pre .2) (sym (c .before .before .before .before .before .byte-at .ensures .0) ∙ c .before .before .before .before .if2 .left) (omega (arith, l)) _ (payload-here (c .before .before .byte-at2 .ensures .0) (c .before .byte-at3 .ensures .0)) (omega arith)
 
-add-if5 : tie.Need-add-if5
-add-if5 c = search needs
-
 returns-5 : tie.Need-returns-5
 returns-5 c =
     let a = c .before .before .before .before .before .before .before .before .before .before .args in
     let l = length-append (a .held .now) (a .piece .now) in
     ubx-cut _ (a .i) (c .before .before .before .before .before .before .before .before .before .before .pre .2) (sym (c .before .before .before .before .before .before .byte-at .ensures .0) ∙ c .before .before .before .before .before .if2 .left) (omega (arith, l)) _ (payload-here (c .before .before .before .byte-at2 .ensures .0) (c .before .before .byte-at3 .ensures .0)) (omega arith) (omega (arith, l))
-
-add-t9 : tie.Need-add-t9
-add-t9 c = search needs
 
 returns-6 : tie.Need-returns-6
 returns-6 c =
@@ -87,22 +57,22 @@ pub claim-spec : {M : Type 1} → statement M
 claim-spec =
     tie.close
     (tie.spec
-    add-left
-    sub-left
+    (λ c. search needs)
+    (λ c. search needs)
     returns
-    add-byte-at
+    (λ c. search needs)
     byte-at-requires
     returns-2
     returns-3
-    add-byte-at-2
+    (λ c. search needs)
     byte-at-requires-2
-    add-byte-at-3
+    (λ c. search needs)
     byte-at-requires-3
-    mul-n
-    add-n
-    cast-n
+    (λ c. search needs)
+    (λ c. search needs)
+    (λ c. search needs)
     returns-4
-    add-if5
+    (λ c. search needs)
     returns-5
-    add-t9
+    (λ c. search needs)
     returns-6)

@@ -14,14 +14,8 @@ Inv-loop part out₀ first₀ second₀ k₀ out first second k = Running part o
 abbrev μ-loop : tie.MeasureT-loop
 μ-loop part out₀ first₀ second₀ k₀ out first second k = length part - k
 
-slice-write-out : tie.Need-slice-write-out Inv-loop μ-loop
-slice-write-out c = search needs
-
 loop-holds : tie.Need-loop-holds Inv-loop μ-loop
 loop-holds c = let a = c .before .before .args in running-first (a .part .now) (a .out .now) (c .before .before .pre)
-
-shared-slice-read-wide : tie.Need-shared-slice-read-wide Inv-loop μ-loop
-shared-slice-read-wide c = search needs
 
 wide-requires : tie.Need-wide-requires Inv-loop μ-loop
 wide-requires c κs = search needs
@@ -31,9 +25,6 @@ add-first c = record { fits = omega (arith, c .before .before .before .loop .inv
 
 add-second : tie.Need-add-second Inv-loop μ-loop
 add-second c = record { fits = omega (arith, c .before .before .before .loop .inv .second-small) }
-
-add-k : tie.Need-add-k Inv-loop μ-loop
-add-k c = search needs
 
 mul-out : tie.Need-mul-out Inv-loop μ-loop
 mul-out c = record { fits = omega arith }
@@ -70,13 +61,13 @@ runs-spec =
     (tie.spec
     Inv-loop
     μ-loop
-    slice-write-out
+    (λ c. search needs)
     loop-holds
-    shared-slice-read-wide
+    (λ c. search needs)
     wide-requires
     add-first
     add-second
-    add-k
+    (λ c. search needs)
     mul-out
     add-out
     mul-out-2

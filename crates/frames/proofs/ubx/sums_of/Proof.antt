@@ -8,56 +8,17 @@ use borrow.Author.Needs.{needs}
 use Rattle.frames.proofs.ubx.sums_of.Statement.{statement}
 use Rattle.frames.proofs.ubx.sums_of.Tie as tie
 
-add-sums-from : tie.Need-add-sums-from
-add-sums-from c = search needs
-
-sub-sums-from : tie.Need-sub-sums-from
-sub-sums-from c = search needs
-
-part-sums-from-start : tie.Need-part-sums-from-start
-part-sums-from-start c = search needs
-
-part-sums-from-end : tie.Need-part-sums-from-end
-part-sums-from-end c = search needs
-
 sums-from-requires : tie.Need-sums-from-requires
 sums-from-requires c κs = search needs
 
 returns : tie.Need-returns
 returns c = let a = c .before .before .before .before .before .args in c .sums-from .ensures .0 ∙ ap sums (part-right (a .held .now) (a .piece .now) (a .i) (a .n) (omega arith))
 
-sub-least : tie.Need-sub-least
-sub-least c = search needs
-
 least-requires : tie.Need-least-requires
 least-requires c κs = search needs
 
-add-sums-from-2 : tie.Need-add-sums-from-2
-add-sums-from-2 c = search needs
-
-sub-sums-from-2 : tie.Need-sub-sums-from-2
-sub-sums-from-2 c = search needs
-
-part-sums-from-start-2 : tie.Need-part-sums-from-start-2
-part-sums-from-start-2 c = search needs
-
-part-sums-from-end-2 : tie.Need-part-sums-from-end-2
-part-sums-from-end-2 c = search needs
-
 sums-from-requires-2 : tie.Need-sums-from-requires-2
 sums-from-requires-2 c κs = search needs
-
-sub-sums-from-3 : tie.Need-sub-sums-from-3
-sub-sums-from-3 c = search needs
-
-sub-sums-from-4 : tie.Need-sub-sums-from-4
-sub-sums-from-4 c = search needs
-
-part-sums-from-start-3 : tie.Need-part-sums-from-start-3
-part-sums-from-start-3 c = search needs
-
-part-sums-from-end-3 : tie.Need-part-sums-from-end-3
-part-sums-from-end-3 c = search needs
 
 sums-from-requires-3 : tie.Need-sums-from-requires-3
 sums-from-requires-3 c κs = search needs
@@ -71,22 +32,22 @@ pub sums-of-spec : {M : Type 1} → statement M
 sums-of-spec =
     tie.close
     (tie.spec
-    add-sums-from
-    sub-sums-from
-    part-sums-from-start
-    part-sums-from-end
+    (λ c. search needs)
+    (λ c. search needs)
+    (λ c. search needs)
+    (λ c. search needs)
     sums-from-requires
     returns
-    sub-least
+    (λ c. search needs)
     least-requires
-    add-sums-from-2
-    sub-sums-from-2
-    part-sums-from-start-2
-    part-sums-from-end-2
+    (λ c. search needs)
+    (λ c. search needs)
+    (λ c. search needs)
+    (λ c. search needs)
     sums-from-requires-2
-    sub-sums-from-3
-    sub-sums-from-4
-    part-sums-from-start-3
-    part-sums-from-end-3
+    (λ c. search needs)
+    (λ c. search needs)
+    (λ c. search needs)
+    (λ c. search needs)
     sums-from-requires-3
     returns-2)

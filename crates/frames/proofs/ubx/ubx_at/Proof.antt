@@ -10,15 +10,6 @@ use Rattle.frames.proofs.ubx.ubx_at.Tie as tie
 claim-requires : tie.Need-claim-requires
 claim-requires c κs = search needs
 
-enum-told : tie.Need-enum-told
-enum-told c = search needs
-
-enum-known-n : tie.Need-enum-known-n
-enum-known-n c = search needs
-
-enum-known-n-2 : tie.Need-enum-known-n-2
-enum-known-n-2 c = search needs
-
 sub-by-sums : tie.Need-sub-by-sums
 sub-by-sums c = let a = c .before .before .before .before .before .before .args in (subst (Claim (a .held .now ++ a .piece .now) (a .i)) (c .before .n2 .given .1) (c .before .before .before .claim .ensures)) .0
 
@@ -39,9 +30,9 @@ ubx-at-spec =
     tie.close
     (tie.spec
     claim-requires
-    enum-told
-    enum-known-n
-    enum-known-n-2
+    (λ c. search needs)
+    (λ c. search needs)
+    (λ c. search needs)
     sub-by-sums
     by-sums-requires
     returns

@@ -2,8 +2,9 @@
 use borrow.Author.Needs.{needs}
 use mathlib.Core.Path.{sym, ap, _∙_}
 use native.Mathlib.Omega.{arith}
+use Rattle.bits.proofs.ReadLaws.{taken}
 use Rattle.observations.specs.Steps.{toldNumber, toldPhase}
-use Rattle.observations.proofs.TakeLaws.{number-cut, phase-cut, taken}
+use Rattle.observations.proofs.TakeLaws.{number-cut, phase-cut}
 use Rattle.observations.proofs.RowLaws.{row-cut1, row-cut2, row-cut3, row-cut4, row-cut5, row-read}
 use Rattle.observations.proofs.read.row_at.Statement.{statement}
 use Rattle.observations.proofs.read.row_at.Tie as tie

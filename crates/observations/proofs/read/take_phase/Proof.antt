@@ -4,7 +4,8 @@ use mathlib.Core.Path.{sym, ap, _∙_}
 use native.Mathlib.Omega.{arith}
 use Rattle.bits.specs.Signed.{twosOf}
 use Rattle.bits.specs.Answers.{toldSigned}
-use Rattle.observations.proofs.TakeLaws.{no-size, no-width, phase-narrow, phase-read}
+use Rattle.bits.proofs.ReadLaws.{no-size, no-width}
+use Rattle.observations.proofs.TakeLaws.{phase-narrow, phase-read}
 use Rattle.observations.proofs.read.take_phase.Statement.{statement}
 use Rattle.observations.proofs.read.take_phase.Tie as tie
 

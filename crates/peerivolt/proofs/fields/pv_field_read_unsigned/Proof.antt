@@ -18,9 +18,6 @@ unsigned-read-requires c κs = search needs
 fill-requires : tie.Need-fill-requires
 fill-requires c κs = search needs
 
-same-length : tie.Need-same-length
-same-length c = search needs
-
 returns-2 : tie.Need-returns-2
 returns-2 c =
     let f = c .before .before in
@@ -35,5 +32,5 @@ pv-field-read-unsigned-spec =
     read-unsigned-requires
     unsigned-read-requires
     fill-requires
-    same-length
+    (λ c. search needs)
     returns-2)

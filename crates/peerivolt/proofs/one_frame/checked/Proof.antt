@@ -7,12 +7,6 @@ use Rattle.peerivolt.proofs.AnswerLaws.{tells}
 use Rattle.peerivolt.proofs.one_frame.checked.Statement.{statement}
 use Rattle.peerivolt.proofs.one_frame.checked.Tie as tie
 
-enum-known-answer : tie.Need-enum-known-answer
-enum-known-answer c = search needs
-
-cast-whole : tie.Need-cast-whole
-cast-whole c = search needs
-
 whole-requires : tie.Need-whole-requires
 whole-requires c κs = search needs
 
@@ -32,8 +26,8 @@ pub checked-spec : {M : Type 1} → statement M
 checked-spec =
     tie.close
     (tie.spec
-    enum-known-answer
-    cast-whole
+    (λ c. search needs)
+    (λ c. search needs)
     whole-requires
     (λ c. search needs)
     (λ c κs. search needs)

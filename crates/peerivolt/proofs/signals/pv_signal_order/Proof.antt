@@ -18,9 +18,6 @@ ordered-requires c κs = search needs
 fill-requires : tie.Need-fill-requires
 fill-requires c κs = search needs
 
-same-length : tie.Need-same-length
-same-length c = search needs
-
 returns-2 : tie.Need-returns-2
 returns-2 c =
     let f = c .before .before in
@@ -30,4 +27,10 @@ returns-2 c =
 pub pv-signal-order-spec : {M : Type 1} → statement M
 pv-signal-order-spec =
     tie.close
-    (tie.spec returns compare-requires ordered-requires fill-requires same-length returns-2)
+    (tie.spec
+    returns
+    compare-requires
+    ordered-requires
+    fill-requires
+    (λ c. search needs)
+    returns-2)

@@ -8,12 +8,6 @@ use Rattle.printing.proofs.number.hex.Tie as tie
 hex-requires : tie.Need-hex-requires
 hex-requires c κs = search needs
 
-array-share-prefix-digits : tie.Need-array-share-prefix-digits
-array-share-prefix-digits c = search needs
-
-slice-aggregate-text : tie.Need-slice-aggregate-text
-slice-aggregate-text c = search needs
-
 text-requires : tie.Need-text-requires
 text-requires c κs = search needs
 
@@ -24,4 +18,4 @@ returns c =
     (h .result, h .ensures .1 .0, c .text .ensures ∙ ap (λ ds. add ds (gathered (a .out .now) (a .at .now))) (h .ensures .1 .1))
 
 pub hex-spec : {M : Type 1} → statement M
-hex-spec = tie.close (tie.spec hex-requires array-share-prefix-digits slice-aggregate-text text-requires returns)
+hex-spec = tie.close (tie.spec hex-requires (λ c. search needs) (λ c. search needs) text-requires returns)

@@ -15,9 +15,6 @@ less-requires c κs = search needs
 signed-requires : tie.Need-signed-requires
 signed-requires c κs = search needs
 
-slice-aggregate-text : tie.Need-slice-aggregate-text
-slice-aggregate-text c = search needs
-
 text-requires : tie.Need-text-requires
 text-requires c κs = search needs
 
@@ -42,7 +39,7 @@ hundredths-spec =
     (tie.spec
     less-requires
     signed-requires
-    slice-aggregate-text
+    (λ c. search needs)
     text-requires
     two-digits-requires
     returns)

@@ -12,9 +12,6 @@ less-requires c κs = search needs
 blanks-requires : tie.Need-blanks-requires
 blanks-requires c κs = search needs
 
-slice-aggregate-text : tie.Need-slice-aggregate-text
-slice-aggregate-text c = search needs
-
 text-requires : tie.Need-text-requires
 text-requires c κs = search needs
 
@@ -36,7 +33,7 @@ sign-spec =
     (tie.spec
     less-requires
     blanks-requires
-    slice-aggregate-text
+    (λ c. search needs)
     text-requires
     returns
     blanks-requires-2

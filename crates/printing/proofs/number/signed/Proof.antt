@@ -17,12 +17,6 @@ less-requires c κs = search needs
 sign-requires : tie.Need-sign-requires
 sign-requires c κs = search needs
 
-array-share-prefix-digits : tie.Need-array-share-prefix-digits
-array-share-prefix-digits c = search needs
-
-slice-aggregate-text : tie.Need-slice-aggregate-text
-slice-aggregate-text c = search needs
-
 text-requires : tie.Need-text-requires
 text-requires c κs = search needs
 
@@ -42,7 +36,7 @@ signed-spec =
     decimal-requires
     less-requires
     sign-requires
-    array-share-prefix-digits
-    slice-aggregate-text
+    (λ c. search needs)
+    (λ c. search needs)
     text-requires
     returns)

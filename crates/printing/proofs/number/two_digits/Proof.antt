@@ -6,21 +6,6 @@ use Rattle.printing.proofs.NumberLaws.{two-digits}
 use Rattle.printing.proofs.number.two_digits.Statement.{statement}
 use Rattle.printing.proofs.number.two_digits.Tie as tie
 
-cast-tens : tie.Need-cast-tens
-cast-tens c = search needs
-
-cast-ones : tie.Need-cast-ones
-cast-ones c = search needs
-
-add-t12 : tie.Need-add-t12
-add-t12 c = search needs
-
-add-t13 : tie.Need-add-t13
-add-t13 c = search needs
-
-slice-aggregate-text : tie.Need-slice-aggregate-text
-slice-aggregate-text c = search needs
-
 text-requires : tie.Need-text-requires
 text-requires c κs = search needs
 
@@ -32,4 +17,11 @@ returns c =
 pub two-digits-spec : {M : Type 1} → statement M
 two-digits-spec =
     tie.close
-    (tie.spec cast-tens cast-ones add-t12 add-t13 slice-aggregate-text text-requires returns)
+    (tie.spec
+    (λ c. search needs)
+    (λ c. search needs)
+    (λ c. search needs)
+    (λ c. search needs)
+    (λ c. search needs)
+    text-requires
+    returns)

@@ -5,26 +5,17 @@ use Rattle.reading.proofs.ArgumentLaws.{differs, no-dash}
 use Rattle.reading.proofs.arguments.kind_of.Statement.{statement}
 use Rattle.reading.proofs.arguments.kind_of.Tie as tie
 
-slice-aggregate-same : tie.Need-slice-aggregate-same
-slice-aggregate-same c = search needs
-
 same-requires : tie.Need-same-requires
 same-requires c κs = search needs
 
 returns : tie.Need-returns
 returns c = inl (c .before .same .ensures .0 (c .if1 .taken))
 
-slice-aggregate-same-2 : tie.Need-slice-aggregate-same-2
-slice-aggregate-same-2 c = search needs
-
 same-requires-2 : tie.Need-same-requires-2
 same-requires-2 c κs = search needs
 
 returns-2 : tie.Need-returns-2
 returns-2 c = inr (c .before .same2 .ensures .0 (c .if2 .taken))
-
-slice-aggregate-same-3 : tie.Need-slice-aggregate-same-3
-slice-aggregate-same-3 c = search needs
 
 same-requires-3 : tie.Need-same-requires-3
 same-requires-3 c κs = search needs
@@ -38,17 +29,11 @@ same-requires-4 c κs = search needs
 returns-4 : tie.Need-returns-4
 returns-4 c = ((differs (c .before .before .before .before .before .before .before .before .before .same .ensures .1) (c .before .before .before .before .before .before .before .before .if1 .left), differs (c .before .before .before .before .before .before .same2 .ensures .1) (c .before .before .before .before .before .if2 .left), differs (c .before .before .before .same3 .ensures .1) (c .before .before .if3 .left)), c .before .same4 .ensures .0 (c .if4 .taken))
 
-slice-aggregate-same-4 : tie.Need-slice-aggregate-same-4
-slice-aggregate-same-4 c = search needs
-
 same-requires-5 : tie.Need-same-requires-5
 same-requires-5 c κs = search needs
 
 returns-5 : tie.Need-returns-5
 returns-5 c = ((differs (c .before .before .before .before .before .before .before .before .before .before .before .before .same .ensures .1) (c .before .before .before .before .before .before .before .before .before .before .before .if1 .left), differs (c .before .before .before .before .before .before .before .before .before .same2 .ensures .1) (c .before .before .before .before .before .before .before .before .if2 .left), differs (c .before .before .before .before .before .before .same3 .ensures .1) (c .before .before .before .before .before .if3 .left)), differs (c .before .before .before .before .same4 .ensures .1) (c .before .before .before .if4 .left), c .before .same5 .ensures .0 (c .if5 .taken))
-
-slice-aggregate-same-5 : tie.Need-slice-aggregate-same-5
-slice-aggregate-same-5 c = search needs
 
 same-requires-6 : tie.Need-same-requires-6
 same-requires-6 c κs = search needs
@@ -58,9 +43,6 @@ returns-6 c = (((differs (c .before .before .before .before .before .before .bef
 
 returns-7 : tie.Need-returns-7
 returns-7 c = (((differs (c .before .before .before .before .before .before .before .before .before .before .before .before .before .before .before .before .same .ensures .1) (c .before .before .before .before .before .before .before .before .before .before .before .before .before .before .before .if1 .left), differs (c .before .before .before .before .before .before .before .before .before .before .before .before .before .same2 .ensures .1) (c .before .before .before .before .before .before .before .before .before .before .before .before .if2 .left), differs (c .before .before .before .before .before .before .before .before .before .before .same3 .ensures .1) (c .before .before .before .before .before .before .before .before .before .if3 .left)), differs (c .before .before .before .before .before .before .before .before .same4 .ensures .1) (c .before .before .before .before .before .before .before .if4 .left), differs (c .before .before .before .before .before .same5 .ensures .1) (c .before .before .before .before .if5 .left)), differs (c .before .before .same6 .ensures .1) (c .before .if6 .left), no-dash (c .before .before .before .before .before .before .before .before .before .before .before .before .before .before .before .before .before .before .before .before .args .word .now) (c .if7 .taken))
-
-shared-slice-read-if8 : tie.Need-shared-slice-read-if8
-shared-slice-read-if8 c = search needs
 
 returns-8 : tie.Need-returns-8
 returns-8 c = (((differs (c .before .before .before .before .before .before .before .before .before .before .before .before .before .before .before .before .before .before .same .ensures .1) (c .before .before .before .before .before .before .before .before .before .before .before .before .before .before .before .before .before .if1 .left), differs (c .before .before .before .before .before .before .before .before .before .before .before .before .before .before .before .same2 .ensures .1) (c .before .before .before .before .before .before .before .before .before .before .before .before .before .before .if2 .left), differs (c .before .before .before .before .before .before .before .before .before .before .before .before .same3 .ensures .1) (c .before .before .before .before .before .before .before .before .before .before .before .if3 .left)), differs (c .before .before .before .before .before .before .before .before .before .before .same4 .ensures .1) (c .before .before .before .before .before .before .before .before .before .if4 .left), differs (c .before .before .before .before .before .before .before .same5 .ensures .1) (c .before .before .before .before .before .before .if5 .left)), differs (c .before .before .before .before .same6 .ensures .1) (c .before .before .before .if6 .left), c .if8 .taken)
@@ -72,24 +54,24 @@ pub kind-of-spec : {M : Type 1} → statement M
 kind-of-spec =
     tie.close
     (tie.spec
-    slice-aggregate-same
+    (λ c. search needs)
     same-requires
     returns
-    slice-aggregate-same-2
+    (λ c. search needs)
     same-requires-2
     returns-2
-    slice-aggregate-same-3
+    (λ c. search needs)
     same-requires-3
     returns-3
     same-requires-4
     returns-4
-    slice-aggregate-same-4
+    (λ c. search needs)
     same-requires-5
     returns-5
-    slice-aggregate-same-5
+    (λ c. search needs)
     same-requires-6
     returns-6
     returns-7
-    shared-slice-read-if8
+    (λ c. search needs)
     returns-8
     returns-9)

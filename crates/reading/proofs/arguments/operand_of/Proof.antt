@@ -4,9 +4,6 @@ use Rattle.reading.proofs.ArgumentLaws.{differs}
 use Rattle.reading.proofs.arguments.operand_of.Statement.{statement}
 use Rattle.reading.proofs.arguments.operand_of.Tie as tie
 
-slice-aggregate-same : tie.Need-slice-aggregate-same
-slice-aggregate-same c = search needs
-
 same-requires : tie.Need-same-requires
 same-requires c κs = search needs
 
@@ -17,4 +14,4 @@ returns-2 : tie.Need-returns-2
 returns-2 c = differs (c .before .same .ensures .1) (c .if1 .left)
 
 pub operand-of-spec : {M : Type 1} → statement M
-operand-of-spec = tie.close (tie.spec slice-aggregate-same same-requires returns returns-2)
+operand-of-spec = tie.close (tie.spec (λ c. search needs) same-requires returns returns-2)

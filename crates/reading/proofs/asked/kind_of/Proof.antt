@@ -4,9 +4,6 @@ use borrow.Author.Needs.{needs}
 use Rattle.reading.proofs.asked.kind_of.Statement.{statement}
 use Rattle.reading.proofs.asked.kind_of.Tie as tie
 
-slice-aggregate-kind-of : tie.Need-slice-aggregate-kind-of
-slice-aggregate-kind-of c = search needs
-
 kind-of-requires : tie.Need-kind-of-requires
 kind-of-requires c κs = search needs
 
@@ -19,9 +16,6 @@ operand-of-requires c κs = search needs
 returns-2 : tie.Need-returns-2
 returns-2 c = (λ _. c .operand-of .ensures, λ n. absurd (n (c .before .before .if1 .left, c .before .if2 .taken)))
 
-slice-aggregate-kind-of-2 : tie.Need-slice-aggregate-kind-of-2
-slice-aggregate-kind-of-2 c = search needs
-
 kind-of-requires-2 : tie.Need-kind-of-requires-2
 kind-of-requires-2 c κs = search needs
 
@@ -32,11 +26,11 @@ pub kind-of-spec : {M : Type 1} → statement M
 kind-of-spec =
     tie.close
     (tie.spec
-    slice-aggregate-kind-of
+    (λ c. search needs)
     kind-of-requires
     returns
     operand-of-requires
     returns-2
-    slice-aggregate-kind-of-2
+    (λ c. search needs)
     kind-of-requires-2
     returns-3)

@@ -5,32 +5,11 @@ use Rattle.reading.specs.Asked.{noted}
 use Rattle.reading.proofs.asked.noted.Statement.{statement}
 use Rattle.reading.proofs.asked.noted.Tie as tie
 
-enum-told : tie.Need-enum-told
-enum-told c = search needs
-
-enum-told-2 : tie.Need-enum-told-2
-enum-told-2 c = search needs
-
-enum-told-3 : tie.Need-enum-told-3
-enum-told-3 c = search needs
-
-enum-told-4 : tie.Need-enum-told-4
-enum-told-4 c = search needs
-
-enum-told-5 : tie.Need-enum-told-5
-enum-told-5 c = search needs
-
 first-requires : tie.Need-first-requires
 first-requires c κs = search needs
 
-enum-told-6 : tie.Need-enum-told-6
-enum-told-6 c = search needs
-
 named-requires : tie.Need-named-requires
 named-requires c κs = search needs
-
-enum-told-7 : tie.Need-enum-told-7
-enum-told-7 c = search needs
 
 named-requires-2 : tie.Need-named-requires-2
 named-requires-2 c κs = search needs
@@ -63,15 +42,15 @@ pub noted-spec : {M : Type 1} → statement M
 noted-spec =
     tie.close
     (tie.spec
-    enum-told
-    enum-told-2
-    enum-told-3
-    enum-told-4
-    enum-told-5
+    (λ c. search needs)
+    (λ c. search needs)
+    (λ c. search needs)
+    (λ c. search needs)
+    (λ c. search needs)
     first-requires
-    enum-told-6
+    (λ c. search needs)
     named-requires
-    enum-told-7
+    (λ c. search needs)
     named-requires-2
     returns
     returns-2

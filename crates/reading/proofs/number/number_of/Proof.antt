@@ -10,15 +10,6 @@ data-of-requires c κs = search needs
 number-of-requires : tie.Need-number-of-requires
 number-of-requires c κs = search needs
 
-enum-known-number : tie.Need-enum-known-number
-enum-known-number c = search needs
-
-cast-result : tie.Need-cast-result
-cast-result c = search needs
-
-enum-told : tie.Need-enum-told
-enum-told c = search needs
-
 returns : tie.Need-returns
 returns c =
     let a = c .before .before .before .before .before .before .args in
@@ -35,8 +26,8 @@ number-of-spec =
     (tie.spec
     data-of-requires
     number-of-requires
-    enum-known-number
-    cast-result
-    enum-told
+    (λ c. search needs)
+    (λ c. search needs)
+    (λ c. search needs)
     returns
     returns-2)

@@ -19,19 +19,10 @@ returns-2 c =
     let a = c .before .before .before .before .args in
     past-piece (a .area .now) (a .count) (a .piece .now) (a .from) (a .i) (c .before .if1 .left) (omega (arith, c .if2 .taken))
 
-sub-if3 : tie.Need-sub-if3
-sub-if3 c = search needs
-
 returns-3 : tie.Need-returns-3
 returns-3 c =
     let a = c .before .before .before .before .before .args in
     past-piece (a .area .now) (a .count) (a .piece .now) (a .from) (a .i) (c .before .before .if1 .left) (omega (arith, c .if3 .taken, c .before .if2 .left))
-
-add-result : tie.Need-add-result
-add-result c = search needs
-
-shared-slice-read-result : tie.Need-shared-slice-read-result
-shared-slice-read-result c = search needs
 
 returns-4 : tie.Need-returns-4
 returns-4 c =
@@ -45,8 +36,8 @@ byte-at-spec =
     byte-or-requires
     returns
     returns-2
-    sub-if3
+    (λ c. search needs)
     returns-3
-    add-result
-    shared-slice-read-result
+    (λ c. search needs)
+    (λ c. search needs)
     returns-4)

@@ -14,12 +14,6 @@ abbrev μ-loop : tie.MeasureT-loop
 slice-aggregate-phrase : tie.Need-slice-aggregate-phrase Inv-loop μ-loop
 slice-aggregate-phrase c = omega arith
 
-array-read-phrase : tie.Need-array-read-phrase Inv-loop μ-loop
-array-read-phrase c = search needs
-
-cast-phrase : tie.Need-cast-phrase Inv-loop μ-loop
-cast-phrase c = search needs
-
 slice-aggregate-phrase-2 : tie.Need-slice-aggregate-phrase-2 Inv-loop μ-loop
 slice-aggregate-phrase-2 c = omega arith
 
@@ -28,12 +22,6 @@ phrase-requires c κs = tt
 
 slice-aggregate-phrase-3 : tie.Need-slice-aggregate-phrase-3 Inv-loop μ-loop
 slice-aggregate-phrase-3 c = omega arith
-
-array-read-phrase-2 : tie.Need-array-read-phrase-2 Inv-loop μ-loop
-array-read-phrase-2 c = search needs
-
-cast-phrase-2 : tie.Need-cast-phrase-2 Inv-loop μ-loop
-cast-phrase-2 c = search needs
 
 slice-aggregate-phrase-4 : tie.Need-slice-aggregate-phrase-4 Inv-loop μ-loop
 slice-aggregate-phrase-4 c = omega arith
@@ -81,13 +69,13 @@ group-spec =
     Inv-loop
     μ-loop
     slice-aggregate-phrase
-    array-read-phrase
-    cast-phrase
+    (λ c. search needs)
+    (λ c. search needs)
     slice-aggregate-phrase-2
     phrase-requires
     slice-aggregate-phrase-3
-    array-read-phrase-2
-    cast-phrase-2
+    (λ c. search needs)
+    (λ c. search needs)
     slice-aggregate-phrase-4
     phrase-requires-2
     slice-aggregate-text

@@ -11,9 +11,6 @@ Inv-loop i entries e j₀ j = Unit {0}
 abbrev μ-loop : tie.MeasureT-loop
 μ-loop i entries e j₀ j = 512 - j
 
-array-read-if1 : tie.Need-array-read-if1 Inv-loop μ-loop
-array-read-if1 c = search needs
-
 returns : tie.Need-returns Inv-loop μ-loop
 returns c = tt
 
@@ -53,7 +50,7 @@ is-first-spec =
     (tie.spec
     Inv-loop
     μ-loop
-    array-read-if1
+    (λ c. search needs)
     returns
     loop-holds
     returns-2

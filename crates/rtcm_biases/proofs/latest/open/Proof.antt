@@ -25,9 +25,6 @@ sub-turns c = omega arith
 next-requires : tie.Need-next-requires Inv-loop μ-loop
 next-requires c κs = tt
 
-enum-known-length : tie.Need-enum-known-length Inv-loop μ-loop
-enum-known-length c = search needs
-
 keep-requires : tie.Need-keep-requires Inv-loop μ-loop
 keep-requires c κs = tt
 
@@ -37,26 +34,17 @@ loop-less c = omega arith
 loop-again : tie.Need-loop-again Inv-loop μ-loop
 loop-again c = tt
 
-enum-known-a : tie.Need-enum-known-a Inv-loop μ-loop
-enum-known-a c = search needs
-
 loop-less-2 : tie.Need-loop-less-2 Inv-loop μ-loop
 loop-less-2 c = omega arith
 
 loop-again-2 : tie.Need-loop-again-2 Inv-loop μ-loop
 loop-again-2 c = tt
 
-enum-known-a-2 : tie.Need-enum-known-a-2 Inv-loop μ-loop
-enum-known-a-2 c = search needs
-
 empty-requires : tie.Need-empty-requires Inv-loop μ-loop
 empty-requires c κs = tt
 
 returns : tie.Need-returns Inv-loop μ-loop
 returns c = tt
-
-enum-told : tie.Need-enum-told Inv-loop μ-loop
-enum-told c = search needs
 
 fail-requires : tie.Need-fail-requires Inv-loop μ-loop
 fail-requires c κs = tt
@@ -81,17 +69,17 @@ open-spec =
     loop-holds
     sub-turns
     next-requires
-    enum-known-length
+    (λ c. search needs)
     keep-requires
     loop-less
     loop-again
-    enum-known-a
+    (λ c. search needs)
     loop-less-2
     loop-again-2
-    enum-known-a-2
+    (λ c. search needs)
     empty-requires
     returns
-    enum-told
+    (λ c. search needs)
     fail-requires
     failed-requires
     returns-2

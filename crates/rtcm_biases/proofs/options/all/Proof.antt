@@ -20,23 +20,8 @@ loop-holds c = tt
 asked-at-requires : tie.Need-asked-at-requires Inv-loop μ-loop
 asked-at-requires c κs = tt
 
-enum-told : tie.Need-enum-told Inv-loop μ-loop
-enum-told c = search needs
-
-enum-told-2 : tie.Need-enum-told-2 Inv-loop μ-loop
-enum-told-2 c = search needs
-
-enum-told-3 : tie.Need-enum-told-3 Inv-loop μ-loop
-enum-told-3 c = search needs
-
-enum-told-4 : tie.Need-enum-told-4 Inv-loop μ-loop
-enum-told-4 c = search needs
-
 first-requires : tie.Need-first-requires Inv-loop μ-loop
 first-requires c κs = tt
-
-enum-told-5 : tie.Need-enum-told-5 Inv-loop μ-loop
-enum-told-5 c = search needs
 
 add-i : tie.Need-add-i Inv-loop μ-loop
 add-i c = omega arith
@@ -59,12 +44,12 @@ all-spec =
     arg-count-requires
     loop-holds
     asked-at-requires
-    enum-told
-    enum-told-2
-    enum-told-3
-    enum-told-4
+    (λ c. search needs)
+    (λ c. search needs)
+    (λ c. search needs)
+    (λ c. search needs)
     first-requires
-    enum-told-5
+    (λ c. search needs)
     add-i
     loop-less
     loop-again

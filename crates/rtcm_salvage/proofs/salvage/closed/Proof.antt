@@ -8,9 +8,6 @@ use Rattle.rtcm_salvage.proofs.salvage.closed.Tie as tie
 close-requires : tie.Need-close-requires
 close-requires c κs = search needs
 
-enum-known-length : tie.Need-enum-known-length
-enum-known-length c = search needs
-
 given-up-requires : tie.Need-given-up-requires
 given-up-requires c κs = search needs
 
@@ -20,17 +17,11 @@ written-requires c κs = search needs
 over-requires : tie.Need-over-requires
 over-requires c κs = search needs
 
-enum-known-a : tie.Need-enum-known-a
-enum-known-a c = search needs
-
 given-up-requires-2 : tie.Need-given-up-requires-2
 given-up-requires-2 c κs = search needs
 
 over-requires-2 : tie.Need-over-requires-2
 over-requires-2 c κs = search needs
-
-enum-known-a-2 : tie.Need-enum-known-a-2
-enum-known-a-2 c = search needs
 
 over-requires-3 : tie.Need-over-requires-3
 over-requires-3 c κs = search needs
@@ -49,14 +40,14 @@ closed-spec =
     tie.close
     (tie.spec
     close-requires
-    enum-known-length
+    (λ c. search needs)
     given-up-requires
     written-requires
     over-requires
-    enum-known-a
+    (λ c. search needs)
     given-up-requires-2
     over-requires-2
-    enum-known-a-2
+    (λ c. search needs)
     over-requires-3
     returns
     returns-2

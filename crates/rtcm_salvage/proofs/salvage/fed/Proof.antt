@@ -8,9 +8,6 @@ use Rattle.rtcm_salvage.proofs.salvage.fed.Tie as tie
 take-requires : tie.Need-take-requires
 take-requires c κs = search needs
 
-enum-known-length : tie.Need-enum-known-length
-enum-known-length c = search needs
-
 skipped-requires : tie.Need-skipped-requires
 skipped-requires c κs = search needs
 
@@ -20,17 +17,11 @@ written-requires c κs = search needs
 over-requires : tie.Need-over-requires
 over-requires c κs = search needs
 
-enum-known-a : tie.Need-enum-known-a
-enum-known-a c = search needs
-
 skipped-requires-2 : tie.Need-skipped-requires-2
 skipped-requires-2 c κs = search needs
 
 refilled-requires : tie.Need-refilled-requires
 refilled-requires c κs = search needs
-
-enum-known-a-2 : tie.Need-enum-known-a-2
-enum-known-a-2 c = search needs
 
 over-requires-2 : tie.Need-over-requires-2
 over-requires-2 c κs = search needs
@@ -49,14 +40,14 @@ fed-spec =
     tie.close
     (tie.spec
     take-requires
-    enum-known-length
+    (λ c. search needs)
     skipped-requires
     written-requires
     over-requires
-    enum-known-a
+    (λ c. search needs)
     skipped-requires-2
     refilled-requires
-    enum-known-a-2
+    (λ c. search needs)
     over-requires-2
     returns
     returns-2

@@ -4,8 +4,7 @@ use mathlib.Core.Path.{sym, ap, _∙_}
 use native.Mathlib.Omega.{arith}
 use lib.Pow.{pow-mono, pow-pos}
 use Rattle.bits.specs.Answers.{toldUnsigned}
-use Rattle.bits.proofs.ReadLaws.{value-tells}
-use Rattle.whole.proofs.TakeLaws.{no-size, no-width}
+use Rattle.bits.proofs.ReadLaws.{value-tells, no-size, no-width}
 use Rattle.whole.proofs.take.take.Statement.{statement}
 use Rattle.whole.proofs.take.take.Tie as tie
 
