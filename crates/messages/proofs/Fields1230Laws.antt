@@ -11,7 +11,7 @@ use lib.Dec.{eqb}
 use lib.ListN.{length, getD, length-append}
 use lib.IntN.{ℤ, pos}
 use Rattle.bits.specs.Signed.{twosBits}
-use Rattle.bits.specs.Fields.{bits, total}
+use Rattle.bits.specs.Fields.{Field, bits, total}
 use Rattle.bits.proofs.FieldsLaws.{total-one, total-next}
 use Rattle.formats.specs.Format.{twos}
 use Rattle.formats.proofs.WrittenLaws.{fault-next}
@@ -20,28 +20,38 @@ use Rattle.formats.specs.Written.{fine, firstFault}
 use Rattle.messages.specs.Every.{gather}
 use Rattle.messages.specs.Records.{Rec1230, rec1230, signalOf1230, records1230}
 use Rattle.messages.specs.Layout1230.{maskSignals, ofSignal, maskOf}
-use Rattle.messages.specs.Writer.{keep}
+use Rattle.messages.specs.Writer.{keep, firstRepeat}
 use Rattle.messages.specs.Write1230.{isIn, fault1230, fields1230}
 use Rattle.messages.specs.StepsWrite1230.{biasFields1230}
 use Rattle.messages.proofs.Layout1230Laws.{fields-laid}
 use Rattle.messages.proofs.RecordLaws.{from1230, next1230, end1230, parts1230}
+use Rattle.messages.proofs.RepeatLaws.{once}
 use Rattle.messages.proofs.Signals1230Laws.{known-first, one-of-four}
 
 -- ---- the biases of one signal, along the list
+
+nothing-left : (xs : List ℤ) → length xs ≡ 0 → xs ≡ []
+nothing-left [] e = refl
+nothing-left (x ∷ xs) e = absurd (omega arith)
 
 module _ (g : ℕ) (gs : List ℕ) (zs : List ℤ) (l : length gs ≡ length zs) (i : ℕ) (h : i < length gs) where
   kept : ofSignal g (from1230 gs zs i) ≡ keep (eqb (getD gs i 0) g) (getD zs i (pos 0)) (ofSignal g (from1230 gs zs (suc i)))
   unfolding ofSignal
   kept = ap (ofSignal g) (next1230 gs zs l i h)
 
-  pub bias-here : getD gs i 0 ≡ g → biasFields1230 (ofSignal g (from1230 gs zs i)) ≡ bits 16 (twosBits 16 (getD zs i (pos 0))) ∷ biasFields1230 (ofSignal g (from1230 gs zs (i + 1)))
-  bias-here e =
-      rw add-one
-      (ap biasFields1230 (kept ∙ ap (λ (b : Bool). keep b (getD zs i (pos 0)) (ofSignal g (from1230 gs zs (suc i)))) (eq-eqb (getD gs i 0) g e))
-      ∙ fields-next (twos 16) (getD zs i (pos 0)) (ofSignal g (from1230 gs zs (suc i))))
+  -- the first bias is the only one, where no signal stands twice
+  pub only-here : firstRepeat eqb 0 [] gs ≡ fine → isIn g gs ≡ true → getD gs i 0 ≡ g → ofSignal g (records1230 gs zs) ≡ ofSignal g (from1230 gs zs i)
+      → biasFields1230 (ofSignal g (records1230 gs zs)) ≡ bits 16 (twosBits 16 (getD zs i (pos 0))) ∷ []
+  only-here f t e d =
+      let z = getD zs i (pos 0) in
+      let rest = ofSignal g (from1230 gs zs (suc i)) in
+      let k : ofSignal g (records1230 gs zs) ≡ z ∷ rest = d ∙ kept ∙ ap (λ (b : Bool). keep b z rest) (eq-eqb (getD gs i 0) g e) in
+      let n : length (ofSignal g (records1230 gs zs)) ≡ 1 = once g 0 [] gs zs l f ∙ ap (λ (b : Bool). cond b 1 0) t in
+      let o : rest ≡ [] = nothing-left rest (omega (arith, n, ap length k)) in
+      ap biasFields1230 (k ∙ ap (λ (xs : List ℤ). z ∷ xs) o) ∙ fields-next (twos 16) z [] ∙ ap (λ (fs : List Field). bits 16 (twosBits 16 z) ∷ fs) (fields-none (twos 16))
 
-  pub bias-later : (getD gs i 0 ≡ g → ⊥) → biasFields1230 (ofSignal g (from1230 gs zs i)) ≡ biasFields1230 (ofSignal g (from1230 gs zs (i + 1)))
-  bias-later e = rw add-one (ap biasFields1230 (kept ∙ ap (λ (b : Bool). keep b (getD zs i (pos 0)) (ofSignal g (from1230 gs zs (suc i)))) (ne-eqb (getD gs i 0) g e)))
+  pub signal-later : (getD gs i 0 ≡ g → ⊥) → ofSignal g (from1230 gs zs i) ≡ ofSignal g (from1230 gs zs (i + 1))
+  signal-later e = rw add-one (kept ∙ ap (λ (b : Bool). keep b (getD zs i (pos 0)) (ofSignal g (from1230 gs zs (suc i)))) (ne-eqb (getD gs i 0) g e))
 
 pub bias-none : (g : ℕ) (gs : List ℕ) (zs : List ℤ) (i : ℕ) → length gs ≤ i → biasFields1230 (ofSignal g (from1230 gs zs i)) ≡ []
 unfolding ofSignal

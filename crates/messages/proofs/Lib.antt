@@ -36,6 +36,7 @@ pub mod Read1059Laws
 pub mod Read1230Laws
 pub mod I16Laws
 pub mod PenLaws
+pub mod JoinLaws
 pub mod RecordLaws
 pub mod FaultLaws
 pub mod LinkLaws
@@ -45,4 +46,5 @@ pub mod CrowdLaws
 pub mod Write1059Laws
 pub mod Signals1230Laws
 pub mod Fields1230Laws
+pub mod Joined1230Laws
 pub mod Write1230Laws

@@ -13,7 +13,7 @@ use types.Run.{OneOf}
 use denote.Enum.Declared.{tagOf}
 use Rattle.bits.specs.Told.{Accepted}
 use Rattle.bits.specs.Field.{Reading, reading, readUnsigned, field, putField, bitAt}
-use Rattle.bits.specs.Fields.{Field, Bytes, bits, total, putAll}
+use Rattle.bits.specs.Fields.{Bytes, bits, total, putAll}
 use Rattle.bits.specs.Answers.{toldUnsigned}
 use Rattle.bits.specs.declared.field.Unsigned.{Unsigned}
 use Rattle.bits.proofs.field.Unsigned.{the-type as unsigned-type}
@@ -24,14 +24,13 @@ use Rattle.bits.proofs.EightLaws.{next-byte}
 use Rattle.bits.proofs.ReadLaws.{read-tells}
 use Rattle.bits.proofs.FieldsLaws.{total-one, total-append, put-one, put-append}
 use Rattle.formats.specs.Put.{RoomFor, IsPut}
-use Rattle.formats.proofs.PutLaws.{Left, left-all}
 use Rattle.messages.proofs.ArmLaws.{not-refused}
 use Rattle.messages.specs.StepsPen.{drawn}
 
 -- ---- numbers that agree on their low bits are put alike
 
 module _ (s : List ℕ) (p w u v : ℕ) (h : p + w ≤ length s * 8) (b : Bytes s) (e : u % 2 ^ w ≡ v % 2 ^ w) where
-  put-alike : putField s p w u ≡ putField s p w v
+  pub put-alike : putField s p w u ≡ putField s p w v
   put-alike =
       same-bits (putField s p w u) (putField s p w v) (bytes-put s p w u h b) (bytes-put s p w v h b) (length-put s p w u ∙ sym (length-put s p w v)) (λ i l. left i (decLt i p))
     where
@@ -44,7 +43,7 @@ module _ (s : List ℕ) (p w u v : ℕ) (h : p + w ≤ length s * 8) (b : Bytes 
       left i (no k) = right i (omega arith) (decLt i (p + w))
 
 -- a field of no bits
-put-nothing : (s : List ℕ) (p v : ℕ) → p ≤ length s * 8 → Bytes s → putField s p 0 v ≡ s
+pub put-nothing : (s : List ℕ) (p v : ℕ) → p ≤ length s * 8 → Bytes s → putField s p 0 v ≡ s
 put-nothing s p v h b =
     let l : p + 0 ≤ length s * 8 = omega arith in
     put-alike s p 0 v (field s p 0) l b (mod-one v ∙ sym (mod-one (field s p 0))) ∙ put-same s p 0 l b
@@ -101,10 +100,6 @@ module _ (s : List ℕ) (p : ℕ) (h : p ≤ length s * 8) (b : Bytes s) where
         go : Dec (0 < p % 32) → drawn s p 0 ≡ s
         go (yes l) = absurd (not-refused s (p / 32 * 32) (p % 32) few (omega arith) (omega arith) (omega arith) r e o)
         go (no l) = opened-none 0 (omega arith)
-
--- all is left to put with a pen that is opened where it goes
-pub open-left : (s : List ℕ) (p q v : ℕ) (fs : List Field) → (q ≡ p) × (drawn s q v ≡ s) → Left s p fs (drawn s q v) q fs
-open-left s p q v fs e = rw (e .1, e .0) (left-all s p fs)
 
 -- ---- a field is drawn
 

@@ -16,6 +16,7 @@ use Rattle.formats.specs.Written.{fine, firstFault}
 use Rattle.messages.specs.Records.{records1230}
 use Rattle.messages.specs.Writer.{firstRepeat}
 use Rattle.messages.specs.Write1230.{fault1230, fields1230, refused1230, write1230}
+use Rattle.messages.specs.StepsWrite1230.{Faultless1230}
 use Rattle.messages.proofs.WriterLaws.{run-refused, run-put, run-room}
 use Rattle.messages.proofs.Fields1230Laws.{bits-is}
 
@@ -59,24 +60,26 @@ module _ (s : List ℕ) (p : ℕ) (gs : List ℕ) (zs : List ℤ) where
               let e : firstRepeat eqb 0 [] gs ≡ duplicate j = sym ej ∙ ap (λ (b : Bool). cond b (duplicate j) fine) (lt-ltb j (length gs) o) in
               refusal (rw (by-signals, known, e))
 
-          module _ (o : length gs ≤ j) where
-            nothing : refused1230 (length s) gs zs ≡ fine
-            nothing =
-                let e : firstRepeat eqb 0 [] gs ≡ fine = sym ej ∙ ap (λ (b : Bool). cond b (duplicate j) fine) (le-ltb j (length gs) o) in
-                rw (by-signals, known, e)
+          pub faultless : length gs ≤ j → Faultless1230 gs zs
+          faultless o = record { even = l; most = m; known = known; single = sym ej ∙ ap (λ (b : Bool). cond b (duplicate j) fine) (le-ltb j (length gs) o) }
 
-            pub too-long : length s * 8 < p + (4 + length gs * 16) → outcome (room (4 + length gs * 16)) s ≡ write1230 s p gs zs
-            unfolding write1230
-            too-long n =
-                let b = bits-is gs zs l known in
-                ap (λ (k : ℕ). outcome (room k) s) (sym b) ∙ run-room (refused1230 (length s) gs zs) s p (fields1230 (records1230 gs zs)) nothing (omega (arith, b))
+    module _ (f : Faultless1230 gs zs) where
+      nothing : refused1230 (length s) gs zs ≡ fine
+      unfolding refused1230
+      nothing = rw (le-ltb 1023 (length s) h, eq-eqb (length gs) (length zs) (f .even), le-ltb 4 (length gs) (f .most), f .known, f .single)
 
-            module _ (n : p + (4 + length gs * 16) ≤ length s * 8) where
-              pub block-fits : RoomFor s p (fields1230 (records1230 gs zs))
-              block-fits = record { few = h; within = omega (arith, bits-is gs zs l known) }
+      pub too-long : length s * 8 < p + (4 + length gs * 16) → outcome (room (4 + length gs * 16)) s ≡ write1230 s p gs zs
+      unfolding write1230
+      too-long n =
+          let b = bits-is gs zs (f .even) (f .known) in
+          ap (λ (k : ℕ). outcome (room k) s) (sym b) ∙ run-room (refused1230 (length s) gs zs) s p (fields1230 (records1230 gs zs)) nothing (omega (arith, b))
 
-              pub block-put : (t : List ℕ) → t ≡ putAll s p (fields1230 (records1230 gs zs)) → outcome (Accepted (p + (4 + length gs * 16))) t ≡ write1230 s p gs zs
-              unfolding write1230
-              block-put t e =
-                  ap₂ (λ (k : ℕ) (x : List ℕ). outcome (Accepted (p + k)) x) (sym (bits-is gs zs l known)) e
-                  ∙ sym (run-put (refused1230 (length s) gs zs) s p (fields1230 (records1230 gs zs)) nothing (block-fits .within))
+      module _ (n : p + (4 + length gs * 16) ≤ length s * 8) where
+        pub block-fits : RoomFor s p (fields1230 (records1230 gs zs))
+        block-fits = record { few = h; within = omega (arith, bits-is gs zs (f .even) (f .known)) }
+
+        pub block-put : (t : List ℕ) → t ≡ putAll s p (fields1230 (records1230 gs zs)) → outcome (Accepted (p + (4 + length gs * 16))) t ≡ write1230 s p gs zs
+        unfolding write1230
+        block-put t e =
+            ap₂ (λ (k : ℕ) (x : List ℕ). outcome (Accepted (p + k)) x) (sym (bits-is gs zs (f .even) (f .known))) e
+            ∙ sym (run-put (refused1230 (length s) gs zs) s p (fields1230 (records1230 gs zs)) nothing (block-fits .within))

@@ -2,25 +2,23 @@
 ghost use mathlib.Core.Path.{_≡_};
 ghost use mathlib.Core.Bool.{true, cond};
 ghost use mathlib.Core.List.{[]};
-ghost use Prim.Native.Nat.{_^_, _≤_, _<_};
+ghost use Prim.Native.Nat.{_+_, _*_, _^_, _≤_, _<_};
 ghost use lib.ListN.{length};
 ghost use lib.Dec.{eqb, ltb};
 ghost use Rattle.bits.specs.Told.{signal as signalAt, duplicate};
 ghost use Rattle.bits.specs.Signed.{fitsTwos, twosBits};
 ghost use Rattle.bits.specs.Outcome.{outcome};
+ghost use Rattle.bits.specs.Field.{putField};
 ghost use Rattle.bits.specs.Fields.{putAll};
 ghost use Rattle.messages.specs.Answers.{toldBlock};
-ghost use Rattle.formats.specs.Put.{RoomFor, IsPut};
-ghost use Rattle.messages.specs.StepsPen.{drawn};
+ghost use Rattle.formats.specs.Put.{RoomFor};
 ghost use Rattle.formats.specs.Written.{fine, firstFault};
 ghost use Rattle.messages.specs.Records.{records1230};
 ghost use Rattle.messages.specs.Layout1230.{maskSignals, ofSignal};
 ghost use Rattle.messages.specs.Writer.{firstRepeat};
 ghost use Rattle.messages.specs.Write1230.{isIn, fault1230, fields1230, write1230};
-ghost use Rattle.messages.specs.StepsWrite1230.{biasFields1230};
+ghost use Rattle.messages.specs.StepsWrite1230.{biasFields1230, joined, Faultless1230};
 use crate::answer::BlockWritten;
-use crate::pen;
-use crate::pen::Pen;
 use crate::put;
 use crate::read1230::MASK_SIGNALS;
 
@@ -29,16 +27,24 @@ use crate::read1230::MASK_SIGNALS;
 pub fn write(bytes: &mut [u8], start: usize, signals: &[u8], biases: &[i16]) -> BlockWritten
     ensures { λ r. ⌜ outcome (toldBlock r) (now (bytes .exit)) ≡ write1230 (now (bytes .entry)) start (now (signals .entry)) (now (biases .entry)) ⌝ }
 {
-    let n = signals.len();
     if 1023 < bytes.len() {
         return BlockWritten::Size;
     }
-    if n != biases.len() {
+    if signals.len() != biases.len() {
         return BlockWritten::Size;
     }
-    if 4 < n {
+    if 4 < signals.len() {
         return BlockWritten::Size;
     }
+    write_few(bytes, start, signals, biases)
+}
+
+// Writes the block of at most four records. It stands alone as read_masked does.
+fn write_few(bytes: &mut [u8], start: usize, signals: &[u8], biases: &[i16]) -> BlockWritten
+    requires { ⌜ (length (now bytes) ≤ 1023) × (length (now signals) ≡ length (now biases)) × (length (now signals) ≤ 4) ⌝ }
+    ensures { λ r. ⌜ outcome (toldBlock r) (now (bytes .exit)) ≡ write1230 (now (bytes .entry)) start (now (signals .entry)) (now (biases .entry)) ⌝ }
+{
+    let n = signals.len();
     let unknown = first_unknown(signals);
     if unknown < n {
         return BlockWritten::Signal(unknown);
@@ -106,45 +112,58 @@ fn is_in(signal: u8, signals: &[u8]) -> bool
 
 // The mask, and the biases in its order.
 fn put_block(bytes: &mut [u8], start: usize, signals: &[u8], biases: &[i16])
-    requires { ⌜ RoomFor (now bytes) start (fields1230 (records1230 (now signals) (now biases))) × (length (now signals) ≡ length (now biases)) ⌝ }
+    requires { ⌜ RoomFor (now bytes) start (fields1230 (records1230 (now signals) (now biases))) × Faultless1230 (now signals) (now biases) ⌝ }
     ensures { λ r. ⌜ now (bytes .exit) ≡ putAll (now (bytes .entry)) start (fields1230 (records1230 (now (signals .entry)) (now (biases .entry)))) ⌝ }
 {
-    let mask = mask_bit(2, signals) * 8
-        + mask_bit(3, signals) * 4
-        + mask_bit(8, signals) * 2
-        + mask_bit(9, signals);
-    let start = pen::open(bytes, start);
-    let a = pen::draw(bytes, start, 4, mask);
-    let b = put_signal(bytes, a, 2, signals, biases);
-    let c = put_signal(bytes, b, 3, signals, biases);
-    let d = put_signal(bytes, c, 8, signals, biases);
-    let end = put_signal(bytes, d, 9, signals, biases);
-    pen::lift(bytes, end);
+    let none = Joined { mask: 0, word: 0 };
+    let a = join(none, 2, signals, biases);
+    let b = join(a, 3, signals, biases);
+    let c = join(b, 8, signals, biases);
+    let all = join(c, 9, signals, biases);
+    put_joined(bytes, start, signals.len(), all);
 }
 
-// 1 where the signal has a bias, else 0.
-fn mask_bit(signal: u8, signals: &[u8]) -> u64
-    ensures { λ r. ⌜ (r ≡ cond (isIn signal (now (signals .entry))) 1 0) × (r ≤ 1) ⌝ }
-{
-    if is_in(signal, signals) { 1 } else { 0 }
+// Bits of a mask, and the biases of their signals as one number, the last one's 16 bits lowest.
+struct Joined {
+    mask: u64,
+    word: u64,
 }
 
-// The biases of one signal, in list order.
-fn put_signal(bytes: &mut [u8], first: Pen, signal: u8, signals: &[u8], biases: &[i16]) -> Pen
-    requires { ⌜ RoomFor (drawn (now bytes) (first .at) (first .bits)) (first .at) (biasFields1230 (ofSignal signal (records1230 (now signals) (now biases)))) × (length (now signals) ≡ length (now biases)) ⌝ }
-    ensures { λ r. ⌜ IsPut (drawn (now (bytes .entry)) (first .at) (first .bits)) (first .at) (biasFields1230 (ofSignal signal (records1230 (now (signals .entry)) (now (biases .entry))))) (drawn (now (bytes .exit)) (r .at) (r .bits)) (r .at) ⌝ }
+// With the bit of one more signal below those of the mask, and its bias below the others.
+fn join(above: Joined, signal: u8, signals: &[u8], biases: &[i16]) -> Joined
+    requires { ⌜ Faultless1230 (now signals) (now biases) × (above .mask < 8) × (above .word < 2 ^ 48) ⌝ }
+    ensures { λ r. ⌜ (r .mask ≡ above .mask * 2 + cond (isIn signal (now (signals .entry))) 1 0) × (r .word ≡ joined (above .word) (biasFields1230 (ofSignal signal (records1230 (now (signals .entry)) (now (biases .entry)))))) ⌝ }
 {
-    let mut pen = first;
     let mut i: usize = 0;
     while i < signals.len() {
         if signals[i] == signal {
-            pen = pen::draw(bytes, pen, 16, word_of(biases[i]));
-            i += 1;
-            continue;
+            let word = word_of(biases[i]);
+            return Joined {
+                mask: above.mask * 2 + 1,
+                word: (above.word << 16) + word,
+            };
         }
         i += 1;
     }
-    pen
+    Joined {
+        mask: above.mask * 2,
+        word: above.word,
+    }
+}
+
+// Writes the mask and the n biases. Up to three of them and the mask are one field to write; four are cut in two.
+fn put_joined(bytes: &mut [u8], start: usize, n: usize, all: Joined)
+    requires { ⌜ (length (now bytes) ≤ 1023) × (start + (4 + n * 16) ≤ length (now bytes) * 8) × (n ≤ 4) × (all .mask < 16) × (all .word < 2 ^ (n * 16)) ⌝ }
+    ensures { λ r. ⌜ now (bytes .exit) ≡ putField (now (bytes .entry)) start (4 + n * 16) (all .mask * 2 ^ (n * 16) + all .word) ⌝ }
+{
+    if n < 4 {
+        let number = (all.mask << (n * 16)) + all.word;
+        let _end = put::unsigned(bytes, start, 4 + n * 16, number);
+        return;
+    }
+    let upper = (all.mask << 32) + (all.word >> 32);
+    let at = put::unsigned(bytes, start, 36, upper);
+    let _end = put::unsigned(bytes, at, 32, all.word % 4294967296);
 }
 
 // The 16 bits of a bias.
