@@ -2,18 +2,20 @@
 use mathlib.Core.Path.{_≡_, refl, sym, ap, ap₂, _∙_}
 use mathlib.Core.List.{List, [], _∷_}
 use Prim.Native.Nat.{ℕ, _≤_, _<_, zero, suc, _+_, _-_, _*_, _/_, _%_, _^_}
-use native.Mathlib.Nat.{div-one}
+use native.Mathlib.Nat.{div-one, mod-eq-of-lt}
 use native.Mathlib.Decide.{ℕ-discrete}
 use native.Mathlib.Omega.{arith}
 use borrow.Author.Tests.{lt-ltb, le-ltb, eq-eqb, ne-eqb}
 use lib.IntN.{ℤ}
 use lib.ListN.{length, set, drop, getD}
 use lib.Dec.{eqb}
+use lib.Pow.{shl-exact}
 use Rattle.bits.specs.Told.{Told, Accepted, size, Refused, andThen}
 use Rattle.bits.specs.Field.{missing, cutAt, Reading, reading, readUnsigned, field, readTwos}
 use Rattle.bits.specs.Outcome.{Outcome, outcome, refusing}
 use Rattle.bits.specs.Signed.{twosOf}
 use Rattle.bits.proofs.ReadLaws.{reads-value, reads-short}
+use Rattle.bits.proofs.FieldLaws.{field-lt, field-split, field-within, byte-field}
 use Rattle.formats.specs.Format.{twos, readEach}
 use Rattle.messages.specs.Records.{Rec1230, Counted, counted, rec1230, records1230}
 use Rattle.messages.specs.Reader.{asRecords}
@@ -56,6 +58,38 @@ masked-length m =
     let c = length-keep (m / 2) 8 (masked (9 ∷ []) m) in
     let d = length-keep (m / 1) 9 (masked [] m) in
     omega (arith, div-one m)
+
+-- ---- the mask out of one byte, or two
+
+module _ (s : List ℕ) (p b : ℕ) (e : b ≡ getD s (p / 8) 0) (h : b < 256) where
+  abbrev from : ℕ
+  from = p / 8 * 8
+
+  first-byte : field s from 8 ≡ b
+  first-byte = byte-field s from (p / 8) refl ∙ ap (λ (n : ℕ). n % 2 ^ 8) (sym e) ∙ mod-eq-of-lt h
+
+  -- n bits from there on, of which the mask is a part
+  mask-within : (n x : ℕ) → field s from n ≡ x → x < 2 ^ n → n ≤ 16 → p % 8 + 4 ≤ n → (x * 2 ^ (p % 8) % 2 ^ 64 % 2 ^ n / 2 ^ (n - 4) ≡ field s p 4) × (x * 2 ^ (p % 8) % 2 ^ 64 % 2 ^ n / 2 ^ (n - 4) < 16)
+  mask-within n x f l m k =
+      let at : from + p % 8 ≡ p = omega arith in
+      let g : x * 2 ^ (p % 8) % 2 ^ 64 ≡ x * 2 ^ (p % 8) = shl-exact n (p % 8) 64 l (omega arith) in
+      let r : x * 2 ^ (p % 8) % 2 ^ 64 % 2 ^ n / 2 ^ (n - 4) ≡ field s p 4 =
+      ap (λ (y : ℕ). y % 2 ^ n / 2 ^ (n - 4)) g ∙ ap (λ (y : ℕ). y * 2 ^ (p % 8) % 2 ^ n / 2 ^ (n - 4)) (sym f) ∙ sym (field-within s from n (p % 8) 4 k) ∙ ap (λ (q : ℕ). field s q 4) at in
+      (r, rw r (field-lt s p 4))
+
+  pub mask-in-one : p % 8 < 5 → (b * 2 ^ (p % 8) % 2 ^ 64 % 256 / 2 ^ 4 ≡ field s p 4) × (b * 2 ^ (p % 8) % 2 ^ 64 % 256 / 2 ^ 4 < 16)
+  mask-in-one k = mask-within 8 b first-byte h (omega arith) (omega arith)
+
+  pub mask-in-two : (d : ℕ) → d ≡ getD s (p / 8 + 1) 0 → d < 256 → ((b * 256 + d) * 2 ^ (p % 8) % 2 ^ 64 % 65536 / 2 ^ 12 ≡ field s p 4) × ((b * 256 + d) * 2 ^ (p % 8) % 2 ^ 64 % 65536 / 2 ^ 12 < 16)
+  mask-in-two d g l =
+      let q : from + 8 ≡ (p / 8 + 1) * 8 = omega arith in
+      let second : field s (from + 8) 8 ≡ d = byte-field s (from + 8) (p / 8 + 1) q ∙ ap (λ (n : ℕ). n % 2 ^ 8) (sym g) ∙ mod-eq-of-lt l in
+      let both : field s from 16 ≡ b * 256 + d = field-split s from 8 8 ∙ ap₂ (λ (x y : ℕ). x * 2 ^ 8 + y) first-byte second in
+      mask-within 16 (b * 256 + d) both (omega arith) (omega arith) (omega arith)
+
+-- the number of a mask that is there
+pub mask-there : (s : List ℕ) (p : ℕ) {m : ℕ} → m ≡ field s p 4 → length s ≤ 1023 → p + 4 ≤ length s * 8 → readUnsigned s p 4 ≡ Accepted (reading m (p + 4))
+mask-there s p e few h = reads-value (λ x. x) s p 4 few (omega arith) (omega arith) h ∙ ap (λ (v : ℕ). Accepted (reading v (p + 4))) (sym e)
 
 -- from signal k on
 masked-step : (k m : ℕ) → k < 4 → masked (drop k maskSignals) m ≡ keep (eqb (m / 2 ^ (3 - k) % 2) 1) (getD maskSignals k 0) (masked (drop (k + 1) maskSignals) m)

@@ -41,7 +41,8 @@ pub fn read(
     read_satellites(bytes, at, n as usize, satellites, signals, biases)
 }
 
-// Reads the n satellites from bit `at` on. It stands alone as read_masked of message 1230 does.
+// Reads the n satellites from bit `at` on. It stands alone for speed: a call that many refusals come before is one that
+// the compiler holds for rare, and does not copy into its caller.
 fn read_satellites(
     bytes: &[u8],
     at: usize,

@@ -39,7 +39,8 @@ pub fn write(bytes: &mut [u8], start: usize, signals: &[u8], biases: &[i16]) -> 
     write_few(bytes, start, signals, biases)
 }
 
-// Writes the block of at most four records. It stands alone as read_masked does.
+// Writes the block of at most four records. It stands alone for speed: a call that many refusals come before is one that
+// the compiler holds for rare, and does not copy into its caller.
 fn write_few(bytes: &mut [u8], start: usize, signals: &[u8], biases: &[i16]) -> BlockWritten
     requires { ⌜ (length (now bytes) ≤ 1023) × (length (now signals) ≡ length (now biases)) × (length (now signals) ≤ 4) ⌝ }
     ensures { λ r. ⌜ outcome (toldBlock r) (now (bytes .exit)) ≡ write1230 (now (bytes .entry)) start (now (signals .entry)) (now (biases .entry)) ⌝ }

@@ -15,16 +15,16 @@ use Rattle.messages.proofs.read1230.store.Statement.{statement}
 use Rattle.messages.proofs.read1230.store.Tie as tie
 
 abbrev Inv-loop : tie.InvT-loop
-Inv-loop bytes start mask numbers signals₀ biases₀ at₀ i₀ k₀ signals biases at i k =
+Inv-loop bytes start mask signals₀ biases₀ numbers at₀ i₀ k₀ signals biases at i k =
     (k ≤ 4) × (length signals ≡ length signals₀) × (length biases ≡ length signals₀)
     × Doing put1230 0 (length signals₀) (biasesAt bytes (masked maskSignals mask) start) (lists1230 signals₀ biases₀) i (biasesAt bytes (masked (drop k maskSignals) mask) at) (lists1230 signals biases)
 
 abbrev μ-loop : tie.MeasureT-loop
-μ-loop bytes start mask numbers signals₀ biases₀ at₀ i₀ k₀ signals biases at i k = 4 - k
+μ-loop bytes start mask signals₀ biases₀ numbers at₀ i₀ k₀ signals biases at i k = 4 - k
 
 loop-holds : tie.Need-loop-holds Inv-loop μ-loop
 loop-holds c =
-    let r = c .before .before .pre .1 in
+    let r = c .before .before .pre in
     (omega arith, refl, r .biases, begun put1230 (r .suffices))
 
 loop-again : tie.Need-loop-again Inv-loop μ-loop
@@ -34,35 +34,35 @@ loop-again c =
 
 store-bias-requires : tie.Need-store-bias-requires Inv-loop μ-loop
 store-bias-requires c κs =
-    let l = c .before .before .before .before .before .loop in
-    let r = c .before .before .before .before .before .before .before .before .pre in
+    let l = c .before .before .before .before .loop in
+    let r = c .before .before .before .before .before .before .before .pre in
     record {
-      few = r .1 .few;
-      suffices = rw (l .inv .1) (signal-suffices _ _ (l .k) _ (l .at) (r .0) (omega arith) (c .before .before .before .if1 .left) (l .i) (l .inv .3));
+      few = r .few;
+      suffices = rw (l .inv .1) (signal-suffices _ maskSignals (l .k) _ (l .at) refl (omega arith) (c .before .before .if1 .left) (l .i) (l .inv .3));
       biases = omega arith;
     }
 
 returns : tie.Need-returns Inv-loop μ-loop
 returns c =
-    let l = c .before .before .before .before .before .before .before .before .before .before .loop in
+    let l = c .before .before .before .before .before .before .before .before .before .loop in
     let s = c .before .before .before .before .store-bias in
-    absurd (signal-read _ _ (l .k) _ (l .at) (c .before .before .before .before .before .before .before .before .before .before .before .before .before .pre .0) (omega arith) (c .before .before .before .before .before .before .before .before .if1 .left) (l .i) (l .inv .3) (read-refused (s .result) (c .match .keys2)) (s .ensures .says))
+    absurd (signal-read _ maskSignals (l .k) _ (l .at) refl (omega arith) (c .before .before .before .before .before .before .before .if1 .left) (l .i) (l .inv .3) (read-refused (s .result) (c .match .keys2)) (s .ensures .says))
 
 loop-again-2 : tie.Need-loop-again-2 Inv-loop μ-loop
 loop-again-2 c =
-    let l = c .before .before .before .before .before .before .before .before .before .before .before .before .loop in
+    let l = c .before .before .before .before .before .before .before .before .before .before .before .loop in
     let s = c .before .before .before .before .before .before .store-bias in (
       omega arith,
       omega arith,
       omega arith,
-      signal-stored _ _ (l .k) _ (l .at) (c .before .before .before .before .before .before .before .before .before .before .before .before .before .before .before .pre .0) (omega arith) (c .before .before .before .before .before .before .before .before .before .before .if1 .left) (l .i) (l .inv .3)
+      signal-stored _ maskSignals (l .k) _ (l .at) refl (omega arith) (c .before .before .before .before .before .before .before .before .before .if1 .left) (l .i) (l .inv .3)
           (s .ensures) (ap toldRead (c .before .one .given .1)),
     )
 
 returns-2 : tie.Need-returns-2 Inv-loop μ-loop
 returns-2 c =
     let l = c .before .loop in
-    done put1230 (l .inv .3) put1230-none (masked-none _ (l .k) _ (l .at) (omega arith) (omega arith))
+    done put1230 (l .inv .3) put1230-none (masked-none _ (l .k) _ (l .at) (omega arith) (omega arith)) .lists
 
 pub store-spec : {M : Type 1} → statement M
 store-spec =
