@@ -151,6 +151,37 @@ module _ (s : List ℕ) (p : ℕ) where
     unfolding satelliteAt biasAt
     satellite-read {n} {r} f = rw (e, f) (behind-both a n (readEach bias1059 n s r) ∙ sym (many-same bias1059 (ofBias a) s n r))
 
+module _ (s : List ℕ) (few : length s ≤ 1023) (p : ℕ) where
+  number-there : p + 6 ≤ length s * 8 → readUnsigned s p 6 ≡ Accepted (reading (field s p 6) (p + 6))
+  number-there h = reads-value (λ v. v) s p 6 few (omega arith) (omega arith) h
+
+  -- where a satellite is accepted, its first 11 bits are there
+  pub satellite-within : {r : Reading (List Rec1059)} → satelliteAt s p ≡ Accepted r → p + 11 ≤ length s * 8
+  satellite-within {r} e = go (decLt (length s * 8) (p + 6)) (decLt (length s * 8) (p + 11))
+    where
+      go : Dec (length s * 8 < p + 6) → Dec (length s * 8 < p + 11) → p + 11 ≤ length s * 8
+      go (yes h) l =
+          let d = satellite-cut s p (reads-short (λ v. v) s p 6 few (omega arith) (omega arith) h) in
+          let z : _≡_ {A = ℕ} 0 1 = cc in absurd (omega arith)
+      go (no h) (yes l) =
+          let d = satellite-cut-2 s p (number-there (omega arith)) (reads-short (λ v. v) s (p + 6) 5 few (omega arith) (omega arith) (omega arith)) in
+          let z : _≡_ {A = ℕ} 0 1 = cc in absurd (omega arith)
+      go (no h) (no l) = omega arith
+
+  -- a satellite out of one look at them: its number above, that of its biases below
+  pub satellite-look : {v q : ℕ} → readUnsigned s p 11 ≡ Accepted (reading v q) → satelliteAt s p ≡ many (biasAt s (v / 2 ^ 5)) (v % 32) q
+  satellite-look {v} {q} e =
+      let t = read-tells (λ x. x) s p 11 e in
+      let w : p + 11 ≤ length s * 8 = t .within in
+      let d : v ≡ field s p 6 * 2 ^ 5 + field s (p + 6) 5 = ap (λ (r : Reading ℕ). r .value) (t .is) ∙ field-split s p 6 5 in
+      let n : q ≡ p + 11 = ap (λ (r : Reading ℕ). r .next) (t .is) in
+      let a : v / 2 ^ 5 ≡ field s p 6 = ap (λ (x : ℕ). x / 2 ^ 5) d ∙ high (field s p 6) 5 (field-lt s (p + 6) 5) in
+      let b : v % 32 ≡ field s (p + 6) 5 = ap (λ (x : ℕ). x % 32) d ∙ low (field s p 6) 5 (field-lt s (p + 6) 5) in
+      let m : p + 6 + 5 ≡ q = omega arith in
+      satellite-read s p (number-there (omega arith)) (reads-value (λ v. v) s (p + 6) 5 few (omega arith) (omega arith) (omega arith))
+      ∙ ap₂ (λ (x y : ℕ). many (biasAt s x) y (p + 6 + 5)) (sym a) (sym b)
+      ∙ ap (many (biasAt s (v / 2 ^ 5)) (v % 32)) m
+
 -- a satellite has at most 31 biases, so a count grows by at most 31
 pub few-more : (s : List ℕ) (p : ℕ) → length s ≤ 1023 → (i : ℕ) {j q : ℕ} → Accepted (counted j q) ≡ counts i (satelliteAt s p) → j ≤ i + 31
 unfolding satelliteAt

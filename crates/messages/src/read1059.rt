@@ -153,7 +153,8 @@ fn store(
     BlockRead::Records { count: i, end: at }
 }
 
-// One satellite, whose first record is record i.
+// One satellite, whose first record is record i: its number and that of its biases by one look, since the first pass has
+// found that both are there.
 fn store_satellite(
     bytes: &[u8],
     start: usize,
@@ -165,21 +166,16 @@ fn store_satellite(
     requires { ⌜ Ready1059 (now bytes) i (satelliteAt (now bytes) start) (now satellites) (now signals) (now biases) ⌝ }
     ensures { λ r. ⌜ Stored put1059 i (satelliteAt (now (bytes .entry)) start) (toldRead r) (lists1059 (now (satellites .entry)) (now (signals .entry)) (now (biases .entry))) (lists1059 (now (satellites .exit)) (now (signals .exit)) (now (biases .exit))) ⌝ }
 {
-    // DF068: the satellite.
-    let read = field::read_unsigned(bytes, start, 6);
-    let Unsigned::Value(satellite, at) = read else {
-        return unread(read);
-    };
-    // DF379: the number of its biases.
-    let read = field::read_unsigned(bytes, at, 5);
-    let Unsigned::Value(n, at) = read else {
+    // DF068 and DF379: the satellite, 6 bits, and the number of its biases, 5 bits.
+    let read = field::read_unsigned(bytes, start, 11);
+    let Unsigned::Value(both, at) = read else {
         return unread(read);
     };
     store_biases(
         bytes,
         at,
-        satellite as u8,
-        n as usize,
+        (both >> 5) as u8,
+        (both % 32) as usize,
         i,
         satellites,
         signals,
