@@ -46,7 +46,7 @@ less-again b j l = omega arith
 
 module _ {W K : Type 0} (F : Framing W K) (L : Lawful F) (start : ℕ → Bool) (S : Starts F start) (h p : List ℕ) where
   -- a byte that is no start is decided by itself
-  not-start : (s : List ℕ) (j : ℕ) → start (getD s j 0) ≡ false → (F .need (drop j s) ≡ 1) × ((w : W) × (F .verdict (drop j s) ≡ Skip w))
+  pub not-start : (s : List ℕ) (j : ℕ) → start (getD s j 0) ≡ false → (F .need (drop j s) ≡ 1) × ((w : W) × (F .verdict (drop j s) ≡ Skip w))
   not-start s j e = let f = ap start (first-is s j) ∙ e in (S .alone (drop j s) f, S .skips (drop j s) f)
 
   -- i bytes were skipped, and the bytes up to place e were taken

@@ -111,6 +111,13 @@ module _ {W K : Type 0} (F : Framing W K) (L : Lawful F) (start : ℕ → Bool) 
         let e : i + 1 + c ≡ i + suc c = omega arith in
         alone i (omega arith) (H i (omega arith) (omega arith)) ∙ run c (i + 1) (omega arith) (λ q a b. H q (omega arith) (omega arith)) ∙ ap (λ q. left F s room k q m st ln) e
 
+    skip-run : (c i : ℕ) → i + c ≤ length s → ((q : ℕ) → i ≤ q → q < i + c → (w : W) × (decide F (drop q s) ≡ Skip w)) → left F s room k i m st ln ≡ left F s room k (i + c) m st ln
+    skip-run zero i h H = ap (λ q. left F s room k q m st ln) (sym (add-zero i))
+    skip-run (suc c) i h H =
+        let e : i + 1 + c ≡ i + suc c = omega arith in
+        let v = H i (omega arith) (omega arith) in
+        skip-turn i (omega arith) (v .0) (v .1) ∙ skip-run c (i + 1) (omega arith) (λ q a b. H q (omega arith) (omega arith)) ∙ ap (λ q. left F s room k q m st ln) e
+
     to-start : (i j : ℕ) → Start start s i j → left F s room k i m st ln ≡ left F s room k j m st ln
     to-start i j x =
         let e : i + (j - i) ≡ j = omega (arith, x .from) in
@@ -152,6 +159,20 @@ module _ {W K : Type 0} (F : Framing W K) (L : Lawful F) (start : ℕ → Bool) 
             leads = sym (to-start k m st ln l i j x) ∙ c .leads;
             inside = x .within;
             counted = omega (arith, c .counted, x .from);
+            each = c .each;
+            most = c .most;
+            starts = c .starts;
+            lengths = c .lengths;
+          }
+
+      -- bytes that are skipped
+      pub skips-on : k < room → (j : ℕ) → i ≤ j → j ≤ length s → ((q : ℕ) → i ≤ q → q < j → (w : W) × (decide F (drop q s) ≡ Skip w)) → Came k j m st ln
+      skips-on l j x y H =
+          let e : i + (j - i) ≡ j = omega arith in
+          record {
+            leads = sym (skip-run k m st ln l (j - i) i (omega arith) (λ q a b. H q a (omega arith)) ∙ ap (λ q. left F s room k q m st ln) e) ∙ c .leads;
+            inside = y;
+            counted = omega (arith, c .counted);
             each = c .each;
             most = c .most;
             starts = c .starts;

@@ -71,6 +71,14 @@ heldAt h p i t = drop i (h ++ take t p)
 abbrev pub Reached : {W K : Type 0} → Framing W K → List ℕ → List ℕ → ℕ → ℕ → Type 0
 Reached F h p i t = (i ≤ length h + t) × (t ≤ length p) × (searched (fed.feed (decide F) h p) ≡ onward i t (searched (fed.feed (decide F) (heldAt h p i t) (drop t p))))
 
+-- From place i, with the bytes up to place e taken, a search goes on to place j, with those up to place f taken: every byte between is skipped.
+pub record Passes {W K : Type 0} (F : Framing W K) (h p : List ℕ) (i e j f : ℕ) : Type 0 where
+  pub on : i ≤ j
+  pub within : j ≤ length h + length p
+  pub behind : length h ≤ f
+  pub skips : (k : ℕ) → i ≤ k → k < j → (w : W) × (decide F (drop k (h ++ p)) ≡ Skip w)
+  pub reaches : Reached F h p i (e - length h) → Reached F h p j (f - length h)
+
 -- q holds the checksum of the bytes of s from each place of a window up to the window's end
 pub record Tails (s q : List ℕ) (base stop : ℕ) : Type 0 where
   pub ordered : base ≤ stop

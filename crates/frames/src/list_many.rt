@@ -67,7 +67,8 @@ fn list_rtcm(
                 return list::ended(k, at, framed, false);
             }
             Candidate::NotValid(_) => {
-                i = at + 1;
+                let on = many::pass(held, piece, base, stop, at + 1, all, &sums);
+                i = on.place;
             }
             Candidate::Good(n) => {
                 starts[k] = at as u32;
@@ -92,7 +93,7 @@ fn list_by(
     starts: &mut [u32],
     lengths: &mut [u32],
 ) -> Listing
-    requires { ⌜ Sizes (length (now held)) (length (now piece)) room (now starts) (now lengths) × Within (length (now held) + length (now piece)) room reached × (0 < length (now runs)) × (getD (now runs) 0 0 ≡ 0) × ((mode ≡ 0 → ⊥) → length (now runs) ≡ 4097) ⌝ }
+    requires { ⌜ Sizes (length (now held)) (length (now piece)) room (now starts) (now lengths) × Within (length (now held) + length (now piece)) room reached × (0 < length (now runs)) × (getD (now runs) 0 0 ≡ 0) × ((mode ≡ 0 → ⊥) → length (now runs) ≡ 4097) × (mode ≡ 0 → ⊥) ⌝ }
     ensures { λ r. ⌜ (r, now (starts .exit), now (lengths .exit)) ≡ listOn (room - reached .count) (reached .count) (reached .stop) (reached .framed) (scan (decide (framingOf mode)) (drop (reached .stop) (now (held .entry) ++ now (piece .entry))) .items) (now (starts .entry)) (now (lengths .entry)) ⌝ }
 {
     let all = held.len() + piece.len();
@@ -127,7 +128,17 @@ fn list_by(
                 return list::ended(k, j, framed, false);
             }
             Candidate::NotValid(_) => {
-                i = j + 1;
+                let on = many::pass_both(
+                    held,
+                    piece,
+                    judged.windows,
+                    mode,
+                    j + 1,
+                    all,
+                    &sums,
+                    runs,
+                );
+                i = on.place;
             }
             Candidate::Good(n) => {
                 starts[k] = j as u32;

@@ -12,7 +12,8 @@ ghost use Rattle.frames.specs.Rtcm.{rtcm};
 ghost use Rattle.frames.specs.Frame.{dataLength};
 ghost use Rattle.frames.specs.Ubx.{ubx};
 ghost use Rattle.frames.specs.Modes.{framingOf};
-ghost use Rattle.frames.specs.Steps.{startsIn, candidate, searched, Reached, Tails, Runs, Whole, Ready};
+ghost use Rattle.frames.specs.Steps.{startsIn, candidate, searched, Reached, Tails, Runs, Whole, Ready, Passes};
+ghost use Rattle.frames.specs.declared.scan.Candidate.the-variants.{NotValid};
 use crate::frame;
 use crate::scan;
 use crate::scan::Candidate;
@@ -79,14 +80,14 @@ fn find_rtcm(held: &[u8], piece: &[u8], from: usize, first: usize) -> Searched
 }
 
 // Where a search has come to, and the place up to which bytes are taken.
-struct Passed {
-    place: usize,
-    end: usize,
+pub(crate) struct Passed {
+    pub place: usize,
+    pub end: usize,
 }
 
-// The search for RTCM goes on from place `from` over candidates that fail, as far as they begin in the piece and the window
-// decides whatever may begin there.
-fn pass(
+// Goes on from place `from`, with the bytes up to place `first` taken, over candidates of RTCM that fail, as far as they
+// begin in the piece and the window decides whatever may begin there.
+pub(crate) fn pass(
     held: &[u8],
     piece: &[u8],
     base: usize,
@@ -95,8 +96,8 @@ fn pass(
     first: usize,
     sums: &[u32],
 ) -> Passed
-    requires { ⌜ (Reached (framingOf 0) (now held) (now piece) from (first - length (now held))) × (length (now held) ≤ first) × (length (now held) + length (now piece) < 2 ^ 64) × (base ≤ from) × Tails (now held ++ now piece) (now sums) base stop ⌝ }
-    ensures { λ r. ⌜ (Reached (framingOf 0) (now (held .entry)) (now (piece .entry)) (r .place) (r .end - length (now (held .entry)))) × (length (now (held .entry)) ≤ r .end) × (from ≤ r .place) ⌝ }
+    requires { ⌜ (from ≤ length (now held) + length (now piece)) × (length (now held) ≤ first) × (length (now held) + length (now piece) < 2 ^ 64) × (base ≤ from) × Tails (now held ++ now piece) (now sums) base stop ⌝ }
+    ensures { λ r. ⌜ Passes (framingOf 0) (now (held .entry)) (now (piece .entry)) from first (r .place) (r .end) ⌝ }
 {
     let h = held.len();
     let last = stop - scan::least(stop, 1028);
@@ -141,7 +142,7 @@ fn find_by(
     first: usize,
     runs: &mut [u32],
 ) -> Searched
-    requires { ⌜ (Reached (framingOf mode) (now held) (now piece) from (first - length (now held))) × (length (now held) ≤ first) × (length (now held) + length (now piece) < 2 ^ 64) × (0 < length (now runs)) × (getD (now runs) 0 0 ≡ 0) × ((mode ≡ 0 → ⊥) → length (now runs) ≡ 4097) ⌝ }
+    requires { ⌜ (Reached (framingOf mode) (now held) (now piece) from (first - length (now held))) × (length (now held) ≤ first) × (length (now held) + length (now piece) < 2 ^ 64) × (0 < length (now runs)) × (getD (now runs) 0 0 ≡ 0) × ((mode ≡ 0 → ⊥) → length (now runs) ≡ 4097) × (mode ≡ 0 → ⊥) ⌝ }
     ensures { λ r. ⌜ r ≡ searched (feed (decide (framingOf mode)) (now (held .entry)) (now (piece .entry))) ⌝ }
 {
     let h = held.len();
@@ -179,12 +180,125 @@ fn find_by(
                 return Searched::Frame(j, n, scan::most(end, j + n) - h);
             }
             Candidate::NotValid(n) => {
-                end = scan::most(end, j + n);
-                i = j + 1;
+                let taken = scan::most(end, j + n);
+                let on = pass_both(held, piece, judged.windows, mode, j + 1, taken, &sums, runs);
+                end = on.end;
+                i = on.place;
             }
         }
     }
     Searched::More(i)
+}
+
+// The same over candidates of both kinds.
+pub(crate) fn pass_both(
+    held: &[u8],
+    piece: &[u8],
+    at: Windows,
+    mode: u32,
+    from: usize,
+    first: usize,
+    sums: &[u32],
+    runs: &[u32],
+) -> Passed
+    requires { ⌜ (mode ≡ 0 → ⊥) × (from ≤ length (now held) + length (now piece)) × (length (now held) ≤ first) × (length (now held) + length (now piece) < 2 ^ 64) × (at .base ≤ from) × (at .«ubx_base» ≤ from) × Ready mode (now held ++ now piece) (now sums) (now runs) (at .base) (at .stop) (at .«ubx_base») (at .«ubx_stop») ⌝ }
+    ensures { λ r. ⌜ Passes (framingOf mode) (now (held .entry)) (now (piece .entry)) from first (r .place) (r .end) ⌝ }
+{
+    let h = held.len();
+    let all = h + piece.len();
+    let mut i = from;
+    let mut end = first;
+    while i < all {
+        if i < h {
+            return Passed { place: i, end };
+        }
+        let j = h + scan::next_either(piece, i - h);
+        if all <= j {
+            return Passed { place: i, end };
+        }
+        let n = failing(held, piece, at, j, mode, sums, runs);
+        if n == 0 {
+            return Passed { place: i, end };
+        }
+        end = scan::most(end, j + n);
+        i = j + 1;
+    }
+    Passed { place: i, end }
+}
+
+// By how many bytes the check of the start byte at place i of the piece fails, if a window reaches as far as a candidate
+// can; or 0.
+fn failing(
+    held: &[u8],
+    piece: &[u8],
+    at: Windows,
+    i: usize,
+    mode: u32,
+    sums: &[u32],
+    runs: &[u32],
+) -> usize
+    requires { ⌜ (length (now held) ≤ i) × (i < length (now held) + length (now piece)) × (length (now held) + length (now piece) < 2 ^ 64) × (startsIn mode (getD (now held ++ now piece) i 0) ≡ true) × (at .base ≤ i) × (at .«ubx_base» ≤ i) × Ready mode (now held ++ now piece) (now sums) (now runs) (at .base) (at .stop) (at .«ubx_base») (at .«ubx_stop») ⌝ }
+    ensures { λ r. ⌜ ((r ≡ 0 → ⊥) → NotValid r ≡ candidate (framingOf mode) (drop i (now (held .entry) ++ now (piece .entry)))) ⌝ }
+{
+    if piece[i - held.len()] == 0xB5 {
+        return ubx_failing(held, piece, at.ubx_base, at.ubx_stop, i, runs);
+    }
+    rtcm_failing(held, piece, at.base, at.stop, i, sums)
+}
+
+// The same of a D3.
+fn rtcm_failing(
+    held: &[u8],
+    piece: &[u8],
+    base: usize,
+    stop: usize,
+    i: usize,
+    sums: &[u32],
+) -> usize
+    requires { ⌜ (length (now held) ≤ i) × (i < length (now held) + length (now piece)) × (length (now held) + length (now piece) < 2 ^ 64) × (getD (now held ++ now piece) i 0 ≡ 0xD3) × (base ≤ i) × Tails (now held ++ now piece) (now sums) base stop ⌝ }
+    ensures { λ r. ⌜ ((r ≡ 0 → ⊥) → NotValid r ≡ candidate rtcm (drop i (now (held .entry) ++ now (piece .entry)))) ⌝ }
+{
+    if stop - scan::least(stop, 1028) <= i {
+        return 0;
+    }
+    let n = data_length(piece, i - held.len());
+    let k = i - base;
+    if sums[k] == sums[k + n + 6] {
+        return 0;
+    }
+    n + 6
+}
+
+// The same of a B5.
+fn ubx_failing(held: &[u8], piece: &[u8], base: usize, stop: usize, i: usize, runs: &[u32]) -> usize
+    requires { ⌜ (length (now held) ≤ i) × (i < length (now held) + length (now piece)) × (length (now held) + length (now piece) < 2 ^ 64) × (getD (now held ++ now piece) i 0 ≡ 0xB5) × (base ≤ i) × Runs (now held ++ now piece) (now runs) base stop ⌝ }
+    ensures { λ r. ⌜ ((r ≡ 0 → ⊥) → NotValid r ≡ candidate ubx (drop i (now (held .entry) ++ now (piece .entry)))) ⌝ }
+{
+    if stop - scan::least(stop, 1028) <= i {
+        return 0;
+    }
+    let d = i - held.len();
+    if piece[d + 1] != 0x62 {
+        return 2;
+    }
+    let low = frame::wide(piece[d + 4]);
+    let high = frame::wide(piece[d + 5]);
+    let n = (low + high * 256) as usize;
+    if 1021 < n {
+        return 6;
+    }
+    failed_by(sums_in(held, piece, base, stop, i, n, runs))
+}
+
+// The bytes by which a candidate is not valid; or 0.
+fn failed_by(found: Candidate) -> usize
+    ensures { λ r. ⌜ ((r ≡ 0 → ⊥) → found ≡ NotValid r) ⌝ }
+{
+    match found {
+        Candidate::Incomplete => 0,
+        Candidate::NotValid(n) => n,
+        Candidate::Good(_) => 0,
+    }
 }
 
 // The window that serves a candidate at place i: the one at hand, if it reaches as far as a candidate can; else a new one

@@ -253,7 +253,7 @@ fn near_d3(part: &[u8], from: usize) -> usize
 }
 
 // The place of the first D3 or B5 of a part from a place on, or its end.
-fn next_either(part: &[u8], from: usize) -> usize
+pub(crate) fn next_either(part: &[u8], from: usize) -> usize
     requires { ⌜ from ≤ length (now part) ⌝ }
     ensures { λ r. ⌜ Start startsEither (now (part .entry)) from r ⌝ }
 {

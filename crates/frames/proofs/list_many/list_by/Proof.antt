@@ -13,7 +13,7 @@ use Rattle.frames.specs.ListSteps.{listOn}
 use Rattle.frames.proofs.ModeLaws.{lawful}
 use Rattle.frames.proofs.StartLaws.{mode-starts}
 use Rattle.frames.proofs.RunLaws.{no-runs}
-use Rattle.frames.proofs.ListLaws.{Came, tells, at-start, ends-full, ends-all, ends-short, passes, good-few, good-inside, good-some, lists}
+use Rattle.frames.proofs.ListLaws.{Came, tells, at-start, ends-full, ends-all, ends-short, skips-on, passes, good-few, good-inside, good-some, lists}
 use Rattle.frames.proofs.list_many.list_by.Statement.{statement}
 use Rattle.frames.proofs.list_many.list_by.Tie as tie
 
@@ -85,16 +85,27 @@ returns-2 c = tells (c .ended2 .ensures) (ends-short _ _ _ _ _ _ _ _ _ _ _ _ _ _
 enum-told-2 : tie.Need-enum-told-2 Inv-loop μ-loop
 enum-told-2 c = search needs
 
-add-i : tie.Need-add-i Inv-loop μ-loop
-add-i c = let p = c .before .before .before .before .before .before .before .before .before .before .before .before .before .before .before .before .before .before .before .before .pre .0 in record { fits = omega (arith, p .held, p .piece) }
+add-pass-both : tie.Need-add-pass-both Inv-loop μ-loop
+add-pass-both c = let p = c .before .before .before .before .before .before .before .before .before .before .before .before .before .before .before .before .before .before .before .before .pre .0 in record { fits = omega (arith, p .held, p .piece) }
+
+slice-aggregate-pass-both : tie.Need-slice-aggregate-pass-both Inv-loop μ-loop
+slice-aggregate-pass-both c = search needs
+
+pass-both-requires : tie.Need-pass-both-requires Inv-loop μ-loop
+pass-both-requires c κs =
+    let p = c .before .before .before .before .before .before .before .before .before .before .before .before .before .before .before .before .before .before .before .before .before .before .pre in
+    let w = c .before .before .before .before .before .before .before .judge .ensures in
+    (p .5, omega arith, omega arith, omega (arith, p .0 .held, p .0 .piece), omega (arith, w .1), omega (arith, w .2), w .3)
 
 loop-less : tie.Need-loop-less Inv-loop μ-loop
-loop-less c = omega (arith, c .before .before .before .before .before .before .before .before .before .next-start .ensures .from)
+loop-less c = omega (arith, c .pass-both .ensures .on, c .before .before .before .before .before .before .before .before .before .before .before .before .next-start .ensures .from)
 
 loop-again : tie.Need-loop-again Inv-loop μ-loop
 loop-again c =
-    let w = c .before .before .before .before .before .judge .ensures in
-    (passes _ _ _ _ _ _ _ _ _ _ _ _ _ _ (at-start _ _ _ _ _ _ _ _ _ _ _ _ _ _ (c .before .before .before .before .before .before .before .before .before .before .before .loop .inv .0) (c .before .before .before .before .before .before .before .before .before .before .loop-test .taken) _ (c .before .before .before .before .before .before .before .before .before .next-start .ensures)) (c .before .before .before .before .before .before .before .before .before .before .loop-test .taken) _ (sym (c .enum-told2 .given .1) ∙ w .0), omega (arith, w .1), omega (arith, w .2), w .3, w .4 ∙ c .before .before .before .before .before .before .before .before .before .before .before .loop .inv .4)
+    let a = c .before .before .before .before .before .before .before .before .before .before .before .before .before .before .before .before .before .before .before .before .before .before .before .args in
+    let p = c .pass-both .ensures in
+    let w = c .before .before .before .before .before .before .before .before .judge .ensures in
+    (skips-on _ _ _ _ _ _ _ _ _ _ _ _ _ _ (passes _ _ _ _ _ _ _ _ _ _ _ _ _ _ (at-start _ _ _ _ _ _ _ _ _ _ _ _ _ _ (c .before .before .before .before .before .before .before .before .before .before .before .before .before .before .loop .inv .0) (c .before .before .before .before .before .before .before .before .before .before .before .before .before .loop-test .taken) _ (c .before .before .before .before .before .before .before .before .before .before .before .before .next-start .ensures)) (c .before .before .before .before .before .before .before .before .before .before .before .before .before .loop-test .taken) _ (sym (c .before .before .before .enum-told2 .given .1) ∙ w .0)) (c .before .before .before .before .before .before .before .before .before .before .before .before .before .loop-test .taken) _ (p .on) (omega (arith, p .within, length-append (a .held .now) (a .piece .now))) (p .skips), omega (arith, w .1, p .on), omega (arith, w .2, p .on), w .3, w .4 ∙ c .before .before .before .before .before .before .before .before .before .before .before .before .before .before .loop .inv .4)
 
 enum-known-found : tie.Need-enum-known-found Inv-loop μ-loop
 enum-known-found c = search needs
@@ -138,8 +149,8 @@ add-k c =
     let l = c .before .before .before .before .before .before .before .before .before .before .before .before .loop .inv .0 in
     record { fits = omega (arith, p .held, p .piece, l .each, l .counted, l .inside, length-append (a .held .now) (a .piece .now)) }
 
-add-i-2 : tie.Need-add-i-2 Inv-loop μ-loop
-add-i-2 c =
+add-i : tie.Need-add-i Inv-loop μ-loop
+add-i c =
     let a = c .before .before .before .before .before .before .before .before .before .before .before .before .before .before .before .before .before .before .before .before .before .args in
     let p = c .before .before .before .before .before .before .before .before .before .before .before .before .before .before .before .before .before .before .before .before .before .pre .0 in
     record { fits = omega (arith, p .held, p .piece, length-append (a .held .now) (a .piece .now), good-inside _ _ _ _ _ _ _ _ _ _ _ _ _ _ (at-start _ _ _ _ _ _ _ _ _ _ _ _ _ _ (c .before .before .before .before .before .before .before .before .before .before .before .before .loop .inv .0) (c .before .before .before .before .before .before .before .before .before .before .before .loop-test .taken) _ (c .before .before .before .before .before .before .before .before .before .before .next-start .ensures)) (c .before .before .before .before .before .before .before .before .before .before .before .loop-test .taken) _ (sym (c .before .found .given .1) ∙ c .before .before .before .before .before .before .judge .ensures .0)) }
@@ -210,7 +221,9 @@ list-by-spec =
     same-length-6
     returns-2
     enum-told-2
-    add-i
+    add-pass-both
+    slice-aggregate-pass-both
+    pass-both-requires
     loop-less
     loop-again
     enum-known-found
@@ -222,7 +235,7 @@ list-by-spec =
     slice-write-lengths
     add-framed
     add-k
-    add-i-2
+    add-i
     loop-less-2
     loop-again-2
     ended-requires-3

@@ -13,7 +13,7 @@ use Rattle.frames.specs.Steps.{startsIn, Tails}
 use Rattle.frames.specs.ListSteps.{listOn}
 use Rattle.frames.proofs.ModeLaws.{lawful}
 use Rattle.frames.proofs.StartLaws.{mode-starts}
-use Rattle.frames.proofs.ListLaws.{Came, tells, at-start, ends-full, ends-all, ends-short, passes, good-few, good-inside, good-some, lists}
+use Rattle.frames.proofs.ListLaws.{Came, tells, at-start, ends-full, ends-all, ends-short, skips-on, passes, good-few, good-inside, good-some, lists}
 use Rattle.frames.proofs.list_many.list_rtcm.Statement.{statement}
 use Rattle.frames.proofs.list_many.list_rtcm.Tie as tie
 
@@ -99,16 +99,27 @@ returns-2 c = tells (c .ended2 .ensures) (ends-short _ _ _ _ _ _ _ _ _ _ _ _ _ _
 enum-told-2 : tie.Need-enum-told-2 Inv-loop μ-loop
 enum-told-2 c = search needs
 
-add-i : tie.Need-add-i Inv-loop μ-loop
-add-i c = let p = c .before .before .before .before .before .before .before .before .before .before .before .before .before .before .before .before .before .before .pre .0 in record { fits = omega (arith, p .held, p .piece) }
+add-pass : tie.Need-add-pass Inv-loop μ-loop
+add-pass c = let p = c .before .before .before .before .before .before .before .before .before .before .before .before .before .before .before .before .before .before .pre .0 in record { fits = omega (arith, p .held, p .piece) }
+
+slice-aggregate-pass : tie.Need-slice-aggregate-pass Inv-loop μ-loop
+slice-aggregate-pass c = search needs
+
+pass-requires : tie.Need-pass-requires Inv-loop μ-loop
+pass-requires c κs =
+    let p = c .before .before .before .before .before .before .before .before .before .before .before .before .before .before .before .before .before .before .before .pre .0 in
+    let w = c .before .before .before .before .before .before .cover .ensures in
+    (omega arith, omega arith, omega (arith, p .held, p .piece), omega (arith, w .0), w .2)
 
 loop-less : tie.Need-loop-less Inv-loop μ-loop
-loop-less c = omega (arith, c .before .before .before .before .before .before .before .before .next-start .ensures .from)
+loop-less c = omega (arith, c .pass .ensures .on, c .before .before .before .before .before .before .before .before .before .before .next-start .ensures .from)
 
 loop-again : tie.Need-loop-again Inv-loop μ-loop
 loop-again c =
-    let w = c .before .before .before .before .before .cover .ensures in
-    (passes _ _ _ _ _ _ _ _ _ _ _ _ _ _ (at-start _ _ _ _ _ _ _ _ _ _ _ _ _ _ (c .before .before .before .before .before .before .before .before .before .before .loop .inv .0) (c .before .before .before .before .before .before .before .before .before .loop-test .taken) _ (c .before .before .before .before .before .before .before .before .next-start .ensures)) (c .before .before .before .before .before .before .before .before .before .loop-test .taken) _ (sym (c .enum-told2 .given .1) ∙ c .before .before .rtcm-in .ensures), omega (arith, w .0), w .2, w .3)
+    let a = c .before .before .before .before .before .before .before .before .before .before .before .before .before .before .before .before .before .before .before .before .args in
+    let w = c .before .before .before .before .before .before .before .cover .ensures in
+    let p = c .pass .ensures in
+    (skips-on _ _ _ _ _ _ _ _ _ _ _ _ _ _ (passes _ _ _ _ _ _ _ _ _ _ _ _ _ _ (at-start _ _ _ _ _ _ _ _ _ _ _ _ _ _ (c .before .before .before .before .before .before .before .before .before .before .before .before .loop .inv .0) (c .before .before .before .before .before .before .before .before .before .before .before .loop-test .taken) _ (c .before .before .before .before .before .before .before .before .before .before .next-start .ensures)) (c .before .before .before .before .before .before .before .before .before .before .before .loop-test .taken) _ (sym (c .before .before .enum-told2 .given .1) ∙ c .before .before .before .before .rtcm-in .ensures)) (c .before .before .before .before .before .before .before .before .before .before .before .loop-test .taken) _ (p .on) (omega (arith, p .within, length-append (a .held .now) (a .piece .now))) (p .skips), omega (arith, w .0, p .on), w .2, w .3)
 
 enum-known-n : tie.Need-enum-known-n Inv-loop μ-loop
 enum-known-n c = search needs
@@ -152,8 +163,8 @@ add-k c =
     let l = c .before .before .before .before .before .before .before .before .before .before .before .loop .inv .0 in
     record { fits = omega (arith, p .held, p .piece, l .each, l .counted, l .inside, length-append (a .held .now) (a .piece .now)) }
 
-add-i-2 : tie.Need-add-i-2 Inv-loop μ-loop
-add-i-2 c =
+add-i : tie.Need-add-i Inv-loop μ-loop
+add-i c =
     let a = c .before .before .before .before .before .before .before .before .before .before .before .before .before .before .before .before .before .before .before .args in
     let p = c .before .before .before .before .before .before .before .before .before .before .before .before .before .before .before .before .before .before .before .pre .0 in
     record { fits = omega (arith, p .held, p .piece, length-append (a .held .now) (a .piece .now), good-inside _ _ _ _ _ _ _ _ _ _ _ _ _ _ (at-start _ _ _ _ _ _ _ _ _ _ _ _ _ _ (c .before .before .before .before .before .before .before .before .before .before .before .loop .inv .0) (c .before .before .before .before .before .before .before .before .before .before .loop-test .taken) _ (c .before .before .before .before .before .before .before .before .before .next-start .ensures)) (c .before .before .before .before .before .before .before .before .before .before .loop-test .taken) _ (sym (c .before .n .given .1) ∙ c .before .before .before .rtcm-in .ensures)) }
@@ -203,7 +214,9 @@ list-rtcm-spec =
     same-length-4
     returns-2
     enum-told-2
-    add-i
+    add-pass
+    slice-aggregate-pass
+    pass-requires
     loop-less
     loop-again
     enum-known-n
@@ -215,7 +228,7 @@ list-rtcm-spec =
     slice-write-lengths
     add-framed
     add-k
-    add-i-2
+    add-i
     loop-less-2
     loop-again-2
     ended-requires-3

@@ -81,8 +81,8 @@ add-most c = let a = c .before .before .before .before .before .before .before .
 most-requires : tie.Need-most-requires Inv-loop μ-loop
 most-requires c κs = search needs
 
-sub-t33 : tie.Need-sub-t33 Inv-loop μ-loop
-sub-t33 c = omega (arith, c .before .before .before .before .before .before .before .before .before .before .before .before .before .loop .inv .0 .behind, c .most .ensures)
+sub-t35 : tie.Need-sub-t35 Inv-loop μ-loop
+sub-t35 c = omega (arith, c .before .before .before .before .before .before .before .before .before .before .before .before .before .loop .inv .0 .behind, c .most .ensures)
 
 same-length-3 : tie.Need-same-length-3 Inv-loop μ-loop
 same-length-3 c = c .before .before .before .before .before .before .before .judge .ensures .4 ∙ c .before .before .before .before .before .before .before .before .before .before .before .before .before .loop .inv .4
@@ -103,21 +103,28 @@ add-most-2 c = let a = c .before .before .before .before .before .before .before
 most-requires-2 : tie.Need-most-requires-2 Inv-loop μ-loop
 most-requires-2 c κs = search needs
 
-add-i : tie.Need-add-i Inv-loop μ-loop
-add-i c = let a = c .before .before .before .before .before .before .before .before .before .before .before .before .before .before .before .before .before .before .before .before .args in record { fits = next-fits (c .before .before .before .before .before .before .before .before .before .before .before .next-start .result) (length (a .held .now) + length (a .piece .now)) (omega arith) (c .before .before .before .before .before .before .before .before .before .before .before .before .before .before .before .before .before .before .before .before .pre .2) }
+add-pass-both : tie.Need-add-pass-both Inv-loop μ-loop
+add-pass-both c = let a = c .before .before .before .before .before .before .before .before .before .before .before .before .before .before .before .before .before .before .before .before .args in record { fits = next-fits (c .before .before .before .before .before .before .before .before .before .before .before .next-start .result) (length (a .held .now) + length (a .piece .now)) (omega arith) (c .before .before .before .before .before .before .before .before .before .before .before .before .before .before .before .before .before .before .before .before .pre .2) }
+
+slice-aggregate-pass-both : tie.Need-slice-aggregate-pass-both Inv-loop μ-loop
+slice-aggregate-pass-both c = search needs
+
+pass-both-requires : tie.Need-pass-both-requires Inv-loop μ-loop
+pass-both-requires c κs =
+    let p = c .before .before .before .before .before .before .before .before .before .before .before .before .before .before .before .before .before .before .before .before .before .before .pre in
+    let w = c .before .before .before .before .before .before .before .before .before .judge .ensures in
+    let g = subst (Came _ _ _ _ _ _ _) (sym (c .before .before .most2 .ensures)) (passed _ _ _ _ _ _ _ _ (c .before .before .before .before .before .before .before .before .before .before .before .before .before .before .before .loop .inv .0) _ (c .before .before .before .before .before .before .before .before .before .before .before .before .before .next-start .ensures) _ (sym (c .before .before .before .before .found2 .given .1) ∙ w .0)) in
+    (p .6, omega arith, g .behind, p .2, less-again _ _ (w .1), less-again _ _ (w .2), w .3)
 
 loop-less : tie.Need-loop-less Inv-loop μ-loop
-loop-less c = nearer _ _ _ (c .before .before .before .before .before .before .before .before .before .before .before .before .loop-test .taken) (c .before .before .before .before .before .before .before .before .before .before .before .next-start .ensures .from)
+loop-less c = omega (arith, c .pass-both .ensures .on, c .before .before .before .before .before .before .before .before .before .before .before .before .before .before .next-start .ensures .from, c .before .before .before .before .before .before .before .before .before .before .before .before .before .before .before .loop-test .taken)
 
 loop-again : tie.Need-loop-again Inv-loop μ-loop
 loop-again c =
-    let w = c .before .before .before .before .before .before .before .judge .ensures in (
-      subst (Came _ _ _ _ _ _ _) (sym (c .most2 .ensures)) (passed _ _ _ _ _ _ _ _ (c .before .before .before .before .before .before .before .before .before .before .before .before .before .loop .inv .0) _ (c .before .before .before .before .before .before .before .before .before .before .before .next-start .ensures) _ (sym (c .before .before .found2 .given .1) ∙ w .0)),
-      less-again _ _ (w .1),
-      less-again _ _ (w .2),
-      w .3,
-      w .4 ∙ c .before .before .before .before .before .before .before .before .before .before .before .before .before .loop .inv .4,
-    )
+    let p = c .pass-both .ensures in
+    let w = c .before .before .before .before .before .before .before .before .before .before .judge .ensures in
+    let g = subst (Came _ _ _ _ _ _ _) (sym (c .before .before .before .most2 .ensures)) (passed _ _ _ _ _ _ _ _ (c .before .before .before .before .before .before .before .before .before .before .before .before .before .before .before .before .loop .inv .0) _ (c .before .before .before .before .before .before .before .before .before .before .before .before .before .before .next-start .ensures) _ (sym (c .before .before .before .before .before .found2 .given .1) ∙ w .0)) in
+    (record { behind = p .behind; reached = p .reaches (g .reached) }, omega (arith, w .1, p .on), omega (arith, w .2, p .on), w .3, w .4 ∙ c .before .before .before .before .before .before .before .before .before .before .before .before .before .before .before .before .loop .inv .4)
 
 same-length-4 : tie.Need-same-length-4 Inv-loop μ-loop
 same-length-4 c = c .before .loop .inv .4
@@ -146,13 +153,15 @@ find-by-spec =
     enum-known-found
     add-most
     most-requires
-    sub-t33
+    sub-t35
     same-length-3
     returns-3
     enum-known-found-2
     add-most-2
     most-requires-2
-    add-i
+    add-pass-both
+    slice-aggregate-pass-both
+    pass-both-requires
     loop-less
     loop-again
     same-length-4

@@ -21,7 +21,7 @@ slice-aggregate-find-by : tie.Need-slice-aggregate-find-by
 slice-aggregate-find-by c = search needs
 
 find-by-requires : tie.Need-find-by-requires
-find-by-requires c κs = let p = c .before .before .before .before .pre in (p .0, p .1, p .2, omega arith, refl, λ n. refl)
+find-by-requires c κs = let p = c .before .before .before .before .pre in (p .0, p .1, p .2, omega arith, refl, λ n. refl, c .before .if1 .left)
 
 returns-2 : tie.Need-returns-2
 returns-2 c = c .before .find-by .ensures

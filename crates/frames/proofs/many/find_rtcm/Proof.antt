@@ -98,16 +98,17 @@ pass-requires : tie.Need-pass-requires Inv-loop μ-loop
 pass-requires c κs =
     let w = c .before .before .before .before .before .before .before .before .cover .ensures in
     let g = subst (Came _ _ _ _ _ _ _) (sym (c .before .most2 .ensures)) (passed _ _ _ _ _ _ _ _ (c .before .before .before .before .before .before .before .before .before .before .before .before .before .loop .inv .0) _ (c .before .before .before .before .before .before .before .before .before .before .before .next-start .ensures) _ (sym (c .before .before .before .n2 .given .1) ∙ c .before .before .before .before .before .rtcm-in .ensures)) in
-    (g .reached, g .behind, c .before .before .before .before .before .before .before .before .before .before .before .before .before .before .before .before .before .before .before .pre .2, less-again _ _ (w .0), w .2)
+    (omega arith, g .behind, c .before .before .before .before .before .before .before .before .before .before .before .before .before .before .before .before .before .before .before .pre .2, less-again _ _ (w .0), w .2)
 
 loop-less : tie.Need-loop-less Inv-loop μ-loop
-loop-less c = omega (arith, c .pass .ensures .2, c .before .before .before .before .before .before .before .before .before .before .before .before .next-start .ensures .from, c .before .before .before .before .before .before .before .before .before .before .before .before .before .loop-test .taken)
+loop-less c = omega (arith, c .pass .ensures .on, c .before .before .before .before .before .before .before .before .before .before .before .before .next-start .ensures .from, c .before .before .before .before .before .before .before .before .before .before .before .before .before .loop-test .taken)
 
 loop-again : tie.Need-loop-again Inv-loop μ-loop
 loop-again c =
     let w = c .before .before .before .before .before .before .before .before .before .cover .ensures in
     let p = c .pass .ensures in
-    (record { behind = p .1; reached = p .0 }, omega (arith, w .0, p .2), w .2, w .3)
+    let g = subst (Came _ _ _ _ _ _ _) (sym (c .before .before .most2 .ensures)) (passed _ _ _ _ _ _ _ _ (c .before .before .before .before .before .before .before .before .before .before .before .before .before .before .loop .inv .0) _ (c .before .before .before .before .before .before .before .before .before .before .before .before .next-start .ensures) _ (sym (c .before .before .before .before .n2 .given .1) ∙ c .before .before .before .before .before .before .rtcm-in .ensures)) in
+    (record { behind = p .behind; reached = p .reaches (g .reached) }, omega (arith, w .0, p .on), w .2, w .3)
 
 returns-4 : tie.Need-returns-4 Inv-loop μ-loop
 returns-4 c = all-skipped _ _ _ _ _ _ _ _ (c .before .loop .inv .0) (omega arith)
