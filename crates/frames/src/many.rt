@@ -262,8 +262,8 @@ fn rtcm_failing(
         return 0;
     }
     let n = data_length(piece, i - held.len());
-    let k = i - base;
-    if sums[k] == sums[k + n + 6] {
+    let place = i - base;
+    if sums[place] == sums[place + n + 6] {
         return 0;
     }
     n + 6

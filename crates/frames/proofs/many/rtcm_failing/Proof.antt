@@ -24,8 +24,8 @@ sub-data-length c = search needs
 data-length-requires : tie.Need-data-length-requires
 data-length-requires c κs = let a = c .before .before .before .before .before .args in let l = length-append (a .held .now) (a .piece .now) in omega (arith, l, c .before .before .before .before .before .pre .5 .within, c .before .least .ensures)
 
-sub-k : tie.Need-sub-k
-sub-k c = search needs
+sub-place : tie.Need-sub-place
+sub-place c = search needs
 
 mul-if2 : tie.Need-mul-if2
 mul-if2 c = search needs
@@ -69,7 +69,7 @@ rtcm-failing-spec =
     returns
     sub-data-length
     data-length-requires
-    sub-k
+    sub-place
     mul-if2
     shared-slice-read-if2
     add-if2
