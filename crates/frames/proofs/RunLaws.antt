@@ -293,3 +293,14 @@ module _ {mode : ℕ} {s q r : List ℕ} {base stop foot head : ℕ} (y : Ready 
   pub runs-anew : {r₁ : List ℕ} {base₁ stop₁ foot₁ head₁ : ℕ} → base₁ ≡ base → stop₁ ≡ stop → length r₁ ≡ 4097 → Runs s r₁ foot₁ head₁ → Ready mode s q r₁ base₁ stop₁ foot₁ head₁
   runs-anew e f l t =
       record { tails = subst₂ (λ (j k : ℕ). Tails s q j k) (sym e) (sym f) (y .tails); tails-room = y .tails-room; runs = t; runs-room = λ n. l }
+
+-- the windows of a search that begins at place i: one of tails, and an empty one of runs
+pub begins-ready : {mode : ℕ} {s q r : List ℕ} {base stop i base₁ stop₁ foot₁ head₁ : ℕ} → base₁ ≡ base → stop₁ ≡ stop → foot₁ ≡ i → head₁ ≡ i → Tails s q base stop → length q ≡ 4097
+    → i ≤ length s → 0 < length r → getD r 0 0 ≡ 0 → ((mode ≡ 0 → ⊥) → length r ≡ 4097) → Ready mode s q r base₁ stop₁ foot₁ head₁
+begins-ready {mode} {s} {q} {r} {base} {stop} {i} eb es ef eh t room l some first runs-room =
+    record {
+      tails = subst₂ (λ x y. Tails s q x y) (sym eb) (sym es) t;
+      tails-room = room;
+      runs = subst₂ (λ x y. Runs s r x y) (sym ef) (sym eh) (no-runs s r i l some first);
+      runs-room = runs-room;
+    }

@@ -10,7 +10,6 @@ ghost use Rattle.frames.specs.ListSteps.{listOn, Sizes, Within};
 use crate::list;
 use crate::list::Listing;
 use crate::many;
-use crate::many::Windows;
 use crate::scan;
 use crate::scan::Candidate;
 
@@ -102,42 +101,21 @@ fn list_by(
     let mut framed = reached.framed;
     let mut sums = [0u32; 4097];
     let near = many::open(held, piece, i, 1536, &mut sums);
-    let mut base = near.base;
-    let mut stop = near.stop;
-    let mut ubx_base = i;
-    let mut ubx_stop = i;
+    let mut at = many::begun(near, i);
     while k < room {
         let j = scan::next_start(held, piece, i, mode);
         if all <= j {
             return list::ended(k, j, framed, false);
         }
-        let at = Windows {
-            base,
-            stop,
-            ubx_base,
-            ubx_stop,
-        };
         let judged = many::judge(held, piece, at, j, mode, &mut sums, runs);
-        base = judged.windows.base;
-        stop = judged.windows.stop;
-        ubx_base = judged.windows.ubx_base;
-        ubx_stop = judged.windows.ubx_stop;
+        at = judged.windows;
         let found = judged.candidate;
         match found {
             Candidate::Incomplete => {
                 return list::ended(k, j, framed, false);
             }
             Candidate::NotValid(_) => {
-                let on = many::pass_both(
-                    held,
-                    piece,
-                    judged.windows,
-                    mode,
-                    j + 1,
-                    all,
-                    &sums,
-                    runs,
-                );
+                let on = many::pass_both(held, piece, at, mode, j + 1, all, &sums, runs);
                 i = on.place;
             }
             Candidate::Good(n) => {

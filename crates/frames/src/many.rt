@@ -149,10 +149,7 @@ fn find_by(
     let all = h + piece.len();
     let mut sums = [0u32; 4097];
     let near = open(held, piece, from, 1536, &mut sums);
-    let mut base = near.base;
-    let mut stop = near.stop;
-    let mut ubx_base = from;
-    let mut ubx_stop = from;
+    let mut at = begun(near, from);
     let mut i = from;
     let mut end = first;
     while i < all {
@@ -160,17 +157,8 @@ fn find_by(
         if all <= j {
             return Searched::More(j);
         }
-        let at = Windows {
-            base,
-            stop,
-            ubx_base,
-            ubx_stop,
-        };
         let judged = judge(held, piece, at, j, mode, &mut sums, runs);
-        base = judged.windows.base;
-        stop = judged.windows.stop;
-        ubx_base = judged.windows.ubx_base;
-        ubx_stop = judged.windows.ubx_stop;
+        at = judged.windows;
         let found = judged.candidate;
         match found {
             Candidate::Incomplete => {
@@ -181,7 +169,7 @@ fn find_by(
             }
             Candidate::NotValid(n) => {
                 let taken = scan::most(end, j + n);
-                let on = pass_both(held, piece, judged.windows, mode, j + 1, taken, &sums, runs);
+                let on = pass_both(held, piece, at, mode, j + 1, taken, &sums, runs);
                 end = on.end;
                 i = on.place;
             }
@@ -342,6 +330,18 @@ pub(crate) struct Windows {
     pub stop: usize,
     pub ubx_base: usize,
     pub ubx_stop: usize,
+}
+
+// The windows of a search that begins at place i with one of checksums, and with an empty one of the sums of UBX.
+pub(crate) fn begun(near: Window, i: usize) -> Windows
+    ensures { λ r. ⌜ (r .base ≡ near .base) × (r .stop ≡ near .stop) × (r .«ubx_base» ≡ i) × (r .«ubx_stop» ≡ i) ⌝ }
+{
+    Windows {
+        base: near.base,
+        stop: near.stop,
+        ubx_base: i,
+        ubx_stop: i,
+    }
 }
 
 // What the check of a start byte says, and the windows that are then at hand.

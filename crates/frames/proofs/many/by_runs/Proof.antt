@@ -1,6 +1,5 @@
 -- The window reaches far enough, and decides. Assumes nothing.
 use mathlib.Core.Path.{refl}
-use native.Mathlib.Omega.{arith}
 use borrow.Author.Needs.{needs}
 use Rattle.frames.proofs.many.by_runs.Statement.{statement}
 use Rattle.frames.proofs.many.by_runs.Tie as tie

@@ -11,7 +11,7 @@ use Rattle.frames.specs.Modes.{framingOf}
 use Rattle.frames.specs.Steps.{startsIn, Tails}
 use Rattle.frames.proofs.ModeLaws.{lawful}
 use Rattle.frames.proofs.StartLaws.{mode-starts}
-use Rattle.frames.proofs.FindLaws.{nearer, less-again, Came, all-skipped, no-start, waits, bad-fits, good-fits, passed, finds}
+use Rattle.frames.proofs.FindLaws.{less-again, Came, all-skipped, no-start, waits, bad-fits, good-fits, passed, finds}
 use Rattle.frames.proofs.many.find_rtcm.Statement.{statement}
 use Rattle.frames.proofs.many.find_rtcm.Tie as tie
 

@@ -2,7 +2,6 @@
 use mathlib.Core.Path.{refl, sym, _∙_}
 use mathlib.Core.List.{_++_}
 use lib.ListN.{getD}
-use native.Mathlib.Omega.{arith}
 use borrow.Author.Needs.{needs}
 use Rattle.frames.proofs.CandidateLaws.{first-is}
 use Rattle.frames.proofs.UbxCandidateLaws.{at-b5, b5-both, other-d3, at-other}

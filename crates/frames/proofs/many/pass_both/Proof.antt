@@ -1,6 +1,5 @@
 -- The loop has come to place i, and every byte before it is skipped. Assumes nothing.
-use mathlib.Core.Path.{_≡_, sym, subst}
-use mathlib.Core.List.{_++_}
+use mathlib.Core.Path.{sym, subst}
 use Prim.Native.Nat.{_+_, _-_}
 use native.Mathlib.Omega.{arith}
 use lib.ListN.{length, length-append}

@@ -4,7 +4,6 @@ use mathlib.Core.Path.{refl, sym, _∙_}
 use native.Mathlib.Omega.{arith}
 use mathlib.Core.List.{_++_}
 use lib.ListN.{getD, length-append}
-use borrow.Author.Needs.{needs}
 use Rattle.frames.proofs.UbxCandidateLaws.{ubx-first-bad, ubx-second-bad, ubx-good}
 use Rattle.frames.proofs.RunLaws.{share-fits, shared-fits, second-fits, before-small, in-runs, first-is-own, first-is-other, second-is-own, second-is-other}
 use Rattle.frames.proofs.many.sums_in.Statement.{statement}
