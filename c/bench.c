@@ -152,24 +152,27 @@ int main(void)
 {
     struct bytes clean = clean_stream(100000);
     print_head();
-    struct sum_costs sums = rows_of_small_calls();
+    struct small_costs small = rows_of_small_calls();
     struct cost fed = rows_of_streams(clean);
     struct block_costs costs = rows_of_blocks();
 
     printf("\nLimits\n");
-    print_speed("speed of the checksum of 6 bytes, to a table in C", sums.of_6, TABLE, 0.9);
-    print_speed("speed of the checksum of 20 bytes, to a table in C", sums.of_20, TABLE, 0.9);
-    print_speed("speed of the checksum of 100 bytes, to a table in C", sums.of_100, TABLE, 4);
-    print_speed("speed of the checksum of 1,026 bytes, to a table in C", sums.of_1026, TABLE, 8);
+    print_speed("speed of the checksum of 6 bytes, to a table in C", small.of_6, TABLE, 0.9);
+    print_speed("speed of the checksum of 20 bytes, to a table in C", small.of_20, TABLE, 0.9);
+    print_speed("speed of the checksum of 100 bytes, to a table in C", small.of_100, TABLE, 4);
+    print_speed("speed of the checksum of 1,026 bytes, to a table in C", small.of_1026, TABLE, 8);
     print_speed("speed over a clean stream, to a scan by a table in C", fed, TABLE, 5);
     print_speed("speed over a clean stream, to RTKLIB's framing", fed, RTKLIB, 8);
     limits_of_scanning();
     limits_of_false_starts();
     limits_of_all_frames(clean);
     print_limit("reading 1059, for each of 400 records", costs.read.ns, " ns", 12, true);
+    print_limit("the same, to the plain program", costs.read.to[PLAIN], " times", 1, true);
     print_limit("writing 1059, for each of 400 records", costs.write.ns, " ns", 40, true);
-    print_limit("reading 1059, to the plain program", costs.read.to[PLAIN], " times", 2, true);
-    print_limit("writing 1059, to the plain program", costs.write.to[PLAIN], " times", 2, true);
+    print_limit("the same, to the plain program", costs.write.to[PLAIN], " times", 1, true);
+    print_limit("reading 1230, to the plain program", costs.read_1230, " times", 1.1, true);
+    print_limit("writing 1230, to the plain program", costs.write_1230, " times", 1.1, true);
+    print_limit("writing a field, to the plain program", small.write, " times", 1, true);
     limits_of_messages();
     limit_of_cache();
     print_memory();
