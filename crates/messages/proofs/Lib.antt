@@ -26,7 +26,6 @@ pub mod Calls1230
 pub mod ExtentLaws
 pub mod RefusalLaws
 pub mod KeepLaws
-pub mod MarkedExamples
 pub mod ArmLaws
 pub mod PassLaws
 pub mod RunLaws

@@ -14,7 +14,6 @@ pub mod Write1059
 pub mod Read1230
 pub mod Write1230
 pub mod Answers
-pub mod MarkedExamples
 pub mod InOrder
 pub mod Satellites1059
 pub mod I16
