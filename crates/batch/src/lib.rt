@@ -2,6 +2,8 @@
 // lies in the piece.
 //
 // `specs/` says what each function answers: read it first. A refused call writes nothing.
+#![tactic(auto)]
+
 mod copy;
 pub mod feed;
 mod walk;

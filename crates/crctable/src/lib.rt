@@ -4,6 +4,8 @@
 // places of 256 from the middle on, has nothing to add to a place.
 //
 // It is a crate of its own, since so long a `match` takes longer to check than all that stands on it.
+#![tactic(auto)]
+
 ghost use Rattle.std.specs.Prelude.{◌≡◌, get_or};
 ghost use Rattle.crctable.specs.Table.{table};
 

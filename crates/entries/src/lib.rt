@@ -1,5 +1,7 @@
 // The bias cache over a lent list of entry structs. `walk` goes along the list once and writes at most one entry; all that
 // decides is by value, and asks crate cache.
+#![tactic(auto)]
+
 ghost use Rattle.std.specs.Prelude.{◌≡◌, map, set};
 ghost use Rattle.bits.specs.Outcome.{outcome};
 ghost use Rattle.cache.specs.Cache.{blank, entry_of, Store, Remove, Lookup, step};

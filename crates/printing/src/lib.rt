@@ -2,6 +2,8 @@
 //
 // The first `at` bytes of the area wait to be written. Where more do not fit behind them they are written first, so that
 // no byte is lost; a program that is to stop where its output cannot be written flushes before that. `specs/` says what each function leaves in the area.
+#![tactic(auto)]
+
 ghost use Rattle.std.specs.Prelude.{◌≡◌, ◌+◌, ◌≤◌, min, length, leb};
 ghost use Rattle.bits.specs.Onto.{over};
 ghost use Rattle.printing.specs.Gathered.{gathered, add, blank};

@@ -1,4 +1,6 @@
 // Frames of a recording, which is a file or standard input and is read in pieces, with an account of every byte.
+#![tactic(auto)]
+
 ghost use Rattle.std.specs.Prelude.{◌≡◌, ◌+◌, ◌-◌, ◌≤◌, length};
 ghost use Rattle.frames.specs.Answers.{known};
 ghost use Rattle.reading.specs.Account.{Right, AllTaken, RightFrame, RightTaken, RightClosed, RightStep};

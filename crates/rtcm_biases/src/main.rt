@@ -1,4 +1,6 @@
 // Shows the biases of recordings: each message 1059 and 1230 as a table.
+#![tactic(auto)]
+
 mod found;
 mod latest;
 mod options;

@@ -1,4 +1,6 @@
 // Compares a received frame with the sent one: shows the bytes from the first to the last that differs.
+#![tactic(auto)]
+
 use damage::compare;
 use damage::compare::Compared;
 use libc::STDERR_FILENO;

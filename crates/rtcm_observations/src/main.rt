@@ -1,4 +1,6 @@
 // Shows the observations of recordings: each message 1001 as a table.
+#![tactic(auto)]
+
 mod table;
 
 use frames::frame;

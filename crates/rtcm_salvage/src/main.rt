@@ -1,5 +1,7 @@
 // Writes the good frames of a recording, those that its end hides among them, and lists every other byte with the reason
 // for which it is given up.
+#![tactic(auto)]
+
 mod list;
 mod options;
 mod salvage;

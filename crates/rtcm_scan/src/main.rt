@@ -1,4 +1,6 @@
 // Shows the frames of recordings: a row for each, and an account of every byte, with why bytes were skipped.
+#![tactic(auto)]
+
 ghost use Rattle.std.specs.Prelude.{◌≡◌};
 ghost use Rattle.reading.specs.Account.{Right, AllTaken};
 

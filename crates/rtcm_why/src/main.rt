@@ -1,4 +1,6 @@
 // Says what became of one byte of a recording: in which frame it is, why it was skipped, or from where on it is held.
+#![tactic(auto)]
+
 use frames::fate;
 use frames::fate::Fate;
 use libc::STDERR_FILENO;

@@ -1,4 +1,6 @@
 // Runs outside vectors through crates `bits` and `frames` and writes what comes out, to be compared with what should.
+#![tactic(auto)]
+
 use bits::field::{Signed, Unsigned, Written};
 use bits::{crc, field};
 use frames::frame;

@@ -1,6 +1,8 @@
 // Whole messages 1059 and 1230: the number, the header and the bias block, read and written.
 //
 // `specs/` says what each function answers: read it first. A refused call writes nothing.
+#![tactic(auto)]
+
 pub mod answer;
 mod put;
 pub mod read1059;

@@ -4,6 +4,8 @@
 //
 // A byte adds to the checksum of its tail what it is times a weight: the weight of the last byte, moved on by eight bits for
 // each byte behind it. Products are left unreduced in a running sum, and the sum is reduced where a checksum is stored.
+#![tactic(auto)]
+
 ghost use Rattle.std.specs.Prelude.{◌≡◌, ◌*◌, ◌^◌, ◌≤◌, ◌<◌, length};
 ghost use Rattle.bits.specs.Onto.{onto};
 ghost use Rattle.bits.specs.Crc.{crc_byte};

@@ -1,0 +1,43 @@
+-- Each answer is the one that the limits, the range and the place ask for. Assumes nothing.
+use mathlib.Core.Path.{sym, ap, ◌∙◌}
+use native.Mathlib.Omega.{arith}
+use mir.Syntax.{w64}
+use mir.ValLaws.{to_z-of_z}
+use borrow.Author.Rules.{rules}
+use borrow.Author.Tests.{not-true, not-false}
+use Rattle.bits.specs.Signed.{fits_twos, twos_bits}
+use Rattle.bits.specs.Steps.{put_where_room}
+use Rattle.bits.proofs.LimitLaws.{kept}
+use Rattle.bits.proofs.WriteLaws.{write_size, write_width, write_range, write_where_room}
+use Rattle.bits.proofs.field.write_twos.Goals as goal
+
+pub fits_twos-requires : goal.fits_twos-requires
+fits_twos-requires c = omega (arith, kept _ _ (sym c.limits_of.ensures ∙ c.in-Kept.is))
+
+pub returns-then-not-fits_twos : goal.returns-then-not-fits_twos
+returns-then-not-fits_twos c =
+    write_range _ _ _ _ _ (sym c.limits_of.ensures ∙ c.in-Kept.is)
+    (ap (fits_twos _) (sym (to_z-of_z w64 c.args.value c.ranges.value)) ∙ sym c.fits_twos.ensures ∙ c.if-not-fits_twos.true)
+
+pub twos_bits-requires : goal.twos_bits-requires
+twos_bits-requires c =
+    let f = kept _ _ (sym c.limits_of.ensures ∙ c.in-Kept.is) in
+    (f.1, f.2, sym c.fits_twos.ensures ∙ c.if-not-fits_twos.false)
+
+pub place-requires : goal.place-requires
+place-requires c =
+    let f = kept _ _ (sym c.limits_of.ensures ∙ c.in-Kept.is) in
+    (f.1, f.2, f.0)
+
+pub returns-in-Size : goal.returns-in-Size
+returns-in-Size c = write_size _ _ _ _ _ (sym c.limits_of.ensures ∙ c.in-Size.is)
+
+pub returns-in-Width : goal.returns-in-Width
+returns-in-Width c = write_width _ _ _ _ _ (sym c.limits_of.ensures ∙ c.in-Width.is)
+
+pub returns-else-not-fits_twos : goal.returns-else-not-fits_twos
+returns-else-not-fits_twos c =
+    c.place.ensures
+    ∙ ap (put_where_room _ _ _) (c.twos_bits.ensures ∙ ap (twos_bits _) (to_z-of_z w64 c.args.value c.ranges.value))
+    ∙ write_where_room _ _ _ _ _ (sym c.limits_of.ensures ∙ c.in-Kept.is)
+    (ap (fits_twos _) (sym (to_z-of_z w64 c.args.value c.ranges.value)) ∙ sym c.fits_twos.ensures ∙ c.if-not-fits_twos.false)
