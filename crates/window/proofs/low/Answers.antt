@@ -1,0 +1,7 @@
+-- The low bits, and what the bits above them add. Assumes nothing.
+use borrow.Author.Rules.{rules}
+use Rattle.window.proofs.HalfLaws.{by_halves}
+use Rattle.window.proofs.low.Goals as goal
+
+pub returns : goal.returns
+returns c = by_halves _ _ _ c.upper.ensures c.lower.ensures
