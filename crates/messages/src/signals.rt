@@ -176,7 +176,7 @@ fn compare_numbers(m: u32, n: u32) -> Order
 }
 
 // What is looked for in a table: a number; or a signal, by its band and its letter.
-#[derive(Drop)]
+#[derive(Clone, Copy)]
 pub(crate) enum Wanted {
     Number(u32),
     Signal(u32, u32),

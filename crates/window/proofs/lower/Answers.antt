@@ -68,4 +68,4 @@ returns-in-14 c = sym (byte_alone 14) ∙ ap (λ (k : ℕ). crc_byte 0 (k)) (sym
 
 pub returns-in_default : goal.returns-in_default
 unfolding moves move
-returns-in_default c = sym (byte_alone 15) ∙ ap (λ (k : ℕ). crc_byte 0 (k)) (sym (last c.args.k c.requires c.in_default.rest.0.0.0.0.0.0.0.0.0.0.0.0.0.0.1 c.in_default.rest.0.0.0.0.0.0.0.0.0.0.0.0.0.1 c.in_default.rest.0.0.0.0.0.0.0.0.0.0.0.0.1 c.in_default.rest.0.0.0.0.0.0.0.0.0.0.0.1 c.in_default.rest.0.0.0.0.0.0.0.0.0.0.1 c.in_default.rest.0.0.0.0.0.0.0.0.0.1 c.in_default.rest.0.0.0.0.0.0.0.0.1 c.in_default.rest.0.0.0.0.0.0.0.1 c.in_default.rest.0.0.0.0.0.0.1 c.in_default.rest.0.0.0.0.0.1 c.in_default.rest.0.0.0.0.1 c.in_default.rest.0.0.0.1 c.in_default.rest.0.0.1 c.in_default.rest.0.1 c.in_default.rest.1))
+returns-in_default c = sym (byte_alone 15) ∙ ap (λ (k : ℕ). crc_byte 0 (k)) (sym (last c.args.k c.requires (assumption) (assumption) (assumption) (assumption) (assumption) (assumption) (assumption) (assumption) (assumption) (assumption) (assumption) (assumption) (assumption) (assumption) (assumption)))

@@ -1,0 +1,18 @@
+-- All of the field is missing, or what lies behind the data. Assumes nothing.
+use mathlib.Core.Path.{sym, ap}
+use native.Mathlib.Omega.{arith}
+use borrow.Author.Rules.{rules}
+use Rattle.bits.specs.Told.{short}
+use Rattle.bits.proofs.ReadLaws.{missing_all, missing_some}
+use Rattle.messages.specs.Records.{Counted}
+use Rattle.messages.proofs.read1230.short.Goals as goal
+
+pub returns-then-all-start : goal.returns-then-all-start
+returns-then-all-start c =
+    let a = c.args in
+    ap (short {A = Counted} a.start) (sym (missing_all a.all a.start a.width (omega arith)))
+
+pub returns : goal.returns
+returns c =
+    let a = c.args in
+    ap (short {A = Counted} a.start) (sym (missing_some a.all a.start a.width (omega arith) (omega arith)))

@@ -1,0 +1,51 @@
+-- `messages::write1059::first_fault` meets its contract. The loop's invariant: no record before `i` has a fault. Assumes nothing.
+use mathlib.Core.Path.{◌≡◌, refl, sym, ap, ◌∙◌}
+use Prim.Native.Nat.{◌-◌, ◌≤◌}
+use native.Mathlib.Omega.{arith}
+use lib.ListN.{length, get_or}
+use lib.IntN.{pos}
+use borrow.Author.Rules.{rules}
+use borrow.Author.Tests.{not-true, not-false}
+use Rattle.bits.specs.Signed.{fits_twos}
+use Rattle.formats.specs.Written.{first_fault}
+use Rattle.messages.specs.Records.{records1059}
+use Rattle.messages.specs.StepsWrite1059.{fault_by}
+use Rattle.messages.proofs.I16Laws.{same_16}
+use Rattle.messages.proofs.RecordLaws.{from1059}
+use Rattle.messages.proofs.FaultLaws.{is_satellite, is_signal_lem, is_range, is_fine, no_more}
+use Rattle.messages.proofs.write1059.first_fault.Goals as goal
+
+pub loop-i-init : goal.loop-i-init
+loop-i-init c = (omega arith, refl)
+
+pub returns-then-satellite-gt63 : goal.returns-then-satellite-gt63
+returns-then-satellite-gt63 c =
+    let a = c.args in
+    let l = c.loop-i in
+    sym (l.invariant.1 ∙ sym (is_satellite a.mask a.satellites.now a.signals.now a.biases.now c.requires.0 c.requires.1 l.i c.loop-i-test.true c.if-satellite-gt63.true))
+
+pub returns-then-not-known : goal.returns-then-not-known
+returns-then-not-known c =
+    let a = c.args in
+    let l = c.loop-i in
+    sym (l.invariant.1 ∙ sym (is_signal_lem a.mask a.satellites.now a.signals.now a.biases.now c.requires.0 c.requires.1 l.i c.loop-i-test.true c.if-satellite-gt63.false (sym c.in_mask-known.ensures ∙ c.if-not-known.true)))
+
+pub returns-then-not-fits : goal.returns-then-not-fits
+returns-then-not-fits c =
+    let a = c.args in
+    let l = c.loop-i in
+    let e = c.fits_bias-fits.ensures ∙ ap (fits_twos 14) (same_16 (get_or a.biases.now l.i (pos 0)) c.fits_bias-arg-1.given) in
+    sym (l.invariant.1 ∙ sym (is_range a.mask a.satellites.now a.signals.now a.biases.now c.requires.0 c.requires.1 l.i c.loop-i-test.true c.if-satellite-gt63.false (sym c.in_mask-known.ensures ∙ c.if-not-known.false) (sym e ∙ c.if-not-fits.true)))
+
+pub loop-i-preserved : goal.loop-i-preserved
+loop-i-preserved c =
+    let a = c.args in
+    let l = c.loop-i in
+    let e = c.fits_bias-fits.ensures ∙ ap (fits_twos 14) (same_16 (get_or a.biases.now l.i (pos 0)) c.fits_bias-arg-1.given) in
+    (omega arith, l.invariant.1 ∙ is_fine a.mask a.satellites.now a.signals.now a.biases.now c.requires.0 c.requires.1 l.i c.loop-i-test.true c.if-satellite-gt63.false (sym c.in_mask-known.ensures ∙ c.if-not-known.false) (sym e ∙ c.if-not-fits.false))
+
+pub returns : goal.returns
+returns c =
+    let a = c.args in
+    let l = c.loop-i in
+    sym (l.invariant.1 ∙ no_more a.mask a.satellites.now a.signals.now a.biases.now l.i (omega arith))

@@ -1,0 +1,81 @@
+-- `messages::write1059::put_satellites` meets its contract. The loop's invariant: what is left to put are the satellites from `a` on. Assumes nothing.
+use mathlib.Core.Path.{ap, ◌∙◌}
+use mathlib.Core.List.{List}
+use Prim.Native.Nat.{ℕ, ◌-◌, ◌≤◌}
+use native.Mathlib.Omega.{arith}
+use lib.ListN.{length}
+use Rattle.bits.specs.Fields.{Field}
+use Rattle.messages.specs.Records.{Rec1059, records1059}
+use Rattle.messages.specs.Layout1059.{of_satellite}
+use Rattle.messages.specs.StepsPen.{drawn}
+use Rattle.messages.specs.StepsWrite1059.{satellite_fields, satellites_from}
+use Rattle.formats.proofs.PutLaws.{Left, left_all, left_as, left_fits, left_fits_all, left_put, left_none}
+use Rattle.messages.proofs.Fields1059Laws.{satellites_next, satellites_none}
+use Rattle.messages.proofs.PenLaws.{length_drawn}
+use Rattle.messages.proofs.write1059.put_satellites.Goals as goal
+
+abbrev all : tie.Start invariant-loop decreases-loop → List Rec1059
+all s = records1059 s.args.satellites.now s.args.signals.now s.args.biases.now
+
+abbrev one : tie.Start invariant-loop decreases-loop → ℕ → List Field
+one s a = satellite_fields a (of_satellite a (all s))
+
+pub open-pen-requires : goal.open-pen-requires
+open-pen-requires c = let f = c.requires.0 in (f.few, omega (arith, f.within))
+
+pub loop-a-init : goal.loop-a-init
+loop-a-init c = rw (c.«open».ensures.1, c.«open».ensures.0) (omega arith, left_all _ _ _)
+
+pub offset_bounds-counts-a : goal.offset_bounds-counts-a
+offset_bounds-counts-a c = omega arith
+
+pub bounds-counts-a : goal.bounds-counts-a
+bounds-counts-a c = omega arith
+
+pub offset_bounds-heads-a : goal.offset_bounds-heads-a
+offset_bounds-heads-a c = omega arith
+
+pub bounds-heads-a : goal.bounds-heads-a
+bounds-heads-a c = omega arith
+
+pub put_satellite-pen-requires : goal.put_satellite-pen-requires
+put_satellite-pen-requires c =
+    let l = c.loop-a in
+    let h = c.loop-a-test.true in
+    let d = c.requires.2 in (
+      left_fits (one c l.a) _ (left_as (satellites_next (all c) l.a h) l.invariant.1) c.requires.0,
+      c.requires.1,
+      d.chain,
+      h,
+      d.count l.a h,
+      c.requires.3 l.a h,
+      d.head l.a h,
+    )
+
+pub overflow_add-a : goal.overflow_add-a
+overflow_add-a c = omega arith
+
+pub loop-a-smaller : goal.loop-a-smaller
+loop-a-smaller c = omega arith
+
+pub loop-a-preserved : goal.loop-a-preserved
+loop-a-preserved c =
+    let l = c.loop-a in (
+      omega arith,
+      left_put (one c l.a) _ (left_as (satellites_next (all c) l.a c.loop-a-test.true) l.invariant.1) c.put_satellite-pen.ensures,
+    )
+
+pub lift-requires : goal.lift-requires
+lift-requires c =
+    let l = c.loop-a in
+    let f = left_fits_all _ l.invariant.1 c.requires.0 in
+    let n = length_drawn l.bytes l.pen.at l.pen.bits in
+    (omega (arith, f.few, n), omega (arith, f.within, n))
+
+pub shape_of-bytes : goal.shape_of-bytes
+shape_of-bytes c = ap length c.lift.ensures ∙ c.loop-a.invariant.1.same
+
+pub returns : goal.returns
+returns c =
+    let l = c.loop-a in
+    c.lift.ensures ∙ (left_none (left_as (satellites_none (all c) l.a c.loop-a-test.false) l.invariant.1)).left

@@ -1,0 +1,60 @@
+-- `messages::write1059::write_known` meets its contract. Each answer is the one that the sizes and the first fault ask for. Assumes nothing.
+use mathlib.Core.Path.{ap, ◌∙◌}
+use borrow.Author.Rules.{rules}
+use Rattle.messages.specs.StepsWrite1059.{told_fault}
+use Rattle.messages.proofs.FaultLaws.{first_fault_is, sound}
+use Rattle.messages.proofs.Write1059Laws.{long_data, uneven_signals, uneven_biases, many_records, some_fault, no_fault}
+use Rattle.messages.proofs.write1059.write_known.Goals as goal
+
+pub returns-then-bytes-gt1023 : goal.returns-then-bytes-gt1023
+returns-then-bytes-gt1023 c =
+    let a = c.args in
+    long_data a.edition a.bytes.now a.start a.satellites.now a.signals.now a.biases.now c.if-bytes-gt1023.true
+
+pub returns-then-n-signals : goal.returns-then-n-signals
+returns-then-n-signals c =
+    let a = c.args in
+    uneven_signals a.edition a.bytes.now a.start a.satellites.now a.signals.now a.biases.now c.if-bytes-gt1023.false c.if-n-signals.true
+
+pub returns-then-n-biases : goal.returns-then-n-biases
+returns-then-n-biases c =
+    let a = c.args in
+    uneven_biases a.edition a.bytes.now a.start a.satellites.now a.signals.now a.biases.now c.if-bytes-gt1023.false c.if-n-signals.false c.if-n-biases.true
+
+pub returns-then-n-gt1953 : goal.returns-then-n-gt1953
+returns-then-n-gt1953 c =
+    let a = c.args in
+    many_records a.edition a.bytes.now a.start a.satellites.now a.signals.now a.biases.now c.if-bytes-gt1023.false c.if-n-signals.false c.if-n-biases.false c.if-n-gt1953.true
+
+pub write_faultless-requires : goal.write_faultless-requires
+write_faultless-requires c =
+    let a = c.args in (
+      c.if-bytes-gt1023.false,
+      sound a.edition a.satellites.now a.signals.now a.biases.now c.if-n-signals.false c.if-n-biases.false c.if-n-gt1953.false
+          (first_fault_is a.edition _ _ _ c.mask_1059.ensures c.first_fault.ensures ∙ ap told_fault c.in-None.is),
+    )
+
+pub returns-in-Satellite : goal.returns-in-Satellite
+returns-in-Satellite c =
+    let a = c.args in
+    some_fault a.edition a.bytes.now a.start a.satellites.now a.signals.now a.biases.now c.if-bytes-gt1023.false c.if-n-signals.false c.if-n-biases.false c.if-n-gt1953.false
+    (first_fault_is a.edition _ _ _ c.mask_1059.ensures c.first_fault.ensures ∙ ap told_fault c.in-Satellite.is)
+
+pub returns-in-Signal : goal.returns-in-Signal
+returns-in-Signal c =
+    let a = c.args in
+    some_fault a.edition a.bytes.now a.start a.satellites.now a.signals.now a.biases.now c.if-bytes-gt1023.false c.if-n-signals.false c.if-n-biases.false c.if-n-gt1953.false
+    (first_fault_is a.edition _ _ _ c.mask_1059.ensures c.first_fault.ensures ∙ ap told_fault c.in-Signal.is)
+
+pub returns-in-Range : goal.returns-in-Range
+returns-in-Range c =
+    let a = c.args in
+    some_fault a.edition a.bytes.now a.start a.satellites.now a.signals.now a.biases.now c.if-bytes-gt1023.false c.if-n-signals.false c.if-n-biases.false c.if-n-gt1953.false
+    (first_fault_is a.edition _ _ _ c.mask_1059.ensures c.first_fault.ensures ∙ ap told_fault c.in-Range.is)
+
+pub returns-in-None : goal.returns-in-None
+returns-in-None c =
+    let a = c.args in
+    c.write_faultless.ensures
+    ∙ no_fault a.edition a.bytes.now a.start a.satellites.now a.signals.now a.biases.now c.if-bytes-gt1023.false c.if-n-signals.false c.if-n-biases.false c.if-n-gt1953.false
+    (first_fault_is a.edition _ _ _ c.mask_1059.ensures c.first_fault.ensures ∙ ap told_fault c.in-None.is)

@@ -1,0 +1,57 @@
+-- `messages::write1230::join` meets its contract. The loop's invariant: the signal is not before `i`. Assumes nothing.
+use mathlib.Core.Path.{◌≡◌, refl, sym, ap, ◌∙◌}
+use mathlib.Core.Bool.{Bool, cond}
+use Prim.Native.Nat.{◌+◌, ◌*◌, ◌-◌, ◌≤◌}
+use native.Mathlib.Nat.{add-zero}
+use native.Mathlib.Omega.{arith}
+use borrow.Author.Rules.{rules}
+use lib.ListN.{length, drop, get_or}
+use lib.IntN.{pos}
+use Rattle.bits.specs.Signed.{twos_bits}
+use Rattle.messages.specs.Records.{records1230}
+use Rattle.messages.specs.Layout1230.{of_signal}
+use Rattle.messages.specs.Write1230.{is_in}
+use Rattle.messages.specs.StepsWrite1230.{bias_fields1230}
+use Rattle.messages.proofs.I16Laws.{same_16, all_fit}
+use Rattle.messages.proofs.RecordLaws.{from1230}
+use Rattle.messages.proofs.Signals1230Laws.{in_here, in_later, in_none}
+use Rattle.messages.proofs.Fields1230Laws.{only_here, signal_later, bias_none}
+use Rattle.messages.proofs.JoinLaws.{bias_joined, word_fits, joined_none}
+use Rattle.messages.proofs.write1230.join.Goals as goal
+
+pub loop-i-init : goal.loop-i-init
+loop-i-init c = (omega arith, refl, refl)
+
+pub word_of-word-requires : goal.word_of-word-requires
+word_of-word-requires c =
+    let z = get_or c.args.biases.now c.loop-i.i (pos 0) in
+    rw (same_16 z c.word_of-arg-1.given) (all_fit z c.word_of-arg-1.given)
+
+pub overflow_add-result-then-signals-i : goal.overflow_add-result-then-signals-i
+overflow_add-result-then-signals-i c = omega (arith, word_fits _ _ c.requires.2 c.word_of-word.ensures.1)
+
+pub returns-then-signals-i : goal.returns-then-signals-i
+returns-then-signals-i c =
+    let l = c.loop-i in
+    let z = get_or c.args.biases.now l.i (pos 0) in
+    let e = c.word_of-word.ensures.0 ∙ ap (twos_bits 16) (same_16 z c.word_of-arg-1.given) in
+    let t = l.invariant.1 ∙ in_here c.args.signal c.args.signals.now l.i c.loop-i-test.true c.if-signals-i.true in
+    let o = only_here c.args.signal c.args.signals.now c.args.biases.now c.requires.0.even l.i c.loop-i-test.true c.requires.0.single t c.if-signals-i.true l.invariant.2 in
+    (ap (λ (b : Bool). c.args.above.mask * 2 + cond b 1 0) (sym t), bias_joined _ _ c.requires.2 e c.word_of-word.ensures.1 o)
+
+pub loop-i-preserved : goal.loop-i-preserved
+loop-i-preserved c =
+    let l = c.loop-i in (
+      omega arith,
+      l.invariant.1 ∙ in_later c.args.signal c.args.signals.now l.i c.loop-i-test.true c.if-signals-i.false,
+      l.invariant.2 ∙ signal_later c.args.signal c.args.signals.now c.args.biases.now c.requires.0.even l.i c.loop-i-test.true c.if-signals-i.false,
+    )
+
+pub returns : goal.returns
+returns c =
+    let l = c.loop-i in
+    let t = l.invariant.1 ∙ in_none c.args.signal c.args.signals.now l.i c.loop-i-test.false in
+    let m = c.args.above.mask in (
+      sym (ap (λ (b : Bool). m * 2 + cond b 1 0) t ∙ add-zero (m * 2)),
+      sym (joined_none _ (ap bias_fields1230 l.invariant.2 ∙ bias_none c.args.signal c.args.signals.now c.args.biases.now l.i c.loop-i-test.false)),
+    )
