@@ -12,7 +12,7 @@ use crate::{frame, scan, scanner};
 
 // What a closing call answers: Done, or a frame at the front of the output with its stream place and its kind; the bytes
 // skipped in this call, and the scanner from now on, which after Done is fresh; or a refusal.
-#[derive(Drop)]
+#[derive(Clone, Copy)]
 pub enum Closed {
     Done {
         skipped: usize,

@@ -12,7 +12,7 @@ use crate::{frame, scan};
 
 // What became of a byte: it is part of the frame of so many bytes at a place; it is not D3, and skipped; it is a D3 whose
 // checksum was wrong, and skipped; or it is held, from the unfinished candidate at a place to the end. Or a refusal.
-#[derive(Drop)]
+#[derive(Clone, Copy)]
 pub enum Fate {
     InFrame {
         place: usize,

@@ -11,7 +11,7 @@ ghost use Rattle.frames.specs.Answers.{told_number, told_checked, told_framed};
 use bits::crc;
 
 // The message number of a frame's data: absent if they are fewer than two bytes.
-#[derive(Drop)]
+#[derive(Clone, Copy)]
 pub enum Number {
     Absent,
     Is(u16),
@@ -19,7 +19,7 @@ pub enum Number {
 
 // What the frame check answers: a good frame with its length, that of its data, its message number and its
 // checksum; or a refusal, of which BadCheck carries the checksum sent and the one computed.
-#[derive(Drop)]
+#[derive(Clone, Copy)]
 pub enum Checked {
     Frame {
         length: usize,
@@ -36,7 +36,7 @@ pub enum Checked {
 }
 
 // What framing answers: the frame's length; or a refusal.
-#[derive(Drop)]
+#[derive(Clone, Copy)]
 pub enum Framed {
     Length(usize),
     Size,

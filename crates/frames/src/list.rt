@@ -14,7 +14,7 @@ use crate::{frame, list_many, scan};
 
 // What a listing comes to: how many frames are listed, the place where scanning stops, the bytes in the frames, and
 // whether the lists are full.
-#[derive(Drop)]
+#[derive(Clone, Copy)]
 pub struct Listing {
     pub count: usize,
     pub stop: usize,

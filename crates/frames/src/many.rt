@@ -15,7 +15,7 @@ use crate::scan::{Candidate, Searched};
 use crate::{frame, scan, scanner, ubx};
 
 // A window: its first place, and the place behind its last byte.
-#[derive(Drop)]
+#[derive(Clone, Copy)]
 pub(crate) struct Window {
     pub base: usize,
     pub stop: usize,
@@ -74,7 +74,7 @@ fn find_rtcm(held: &[u8], piece: &[u8], from: usize, first: usize) -> Searched
 }
 
 // Where a search has come to, and the place up to which bytes are taken.
-#[derive(Drop)]
+#[derive(Clone, Copy)]
 pub(crate) struct Passed {
     pub place: usize,
     pub end: usize,
@@ -320,7 +320,7 @@ pub(crate) fn open(held: &[u8], piece: &[u8], i: usize, size: usize, sums: &mut 
 }
 
 // The windows at hand, of the checksums and of the sums of UBX: of each its first place, and the place behind its last byte.
-#[derive(Drop)]
+#[derive(Clone, Copy)]
 pub(crate) struct Windows {
     pub base: usize,
     pub stop: usize,
@@ -341,7 +341,7 @@ pub(crate) fn begun(near: Window, i: usize) -> Windows
 }
 
 // What the check of a start byte says, and the windows that are then at hand.
-#[derive(Drop)]
+#[derive(Clone, Copy)]
 pub(crate) struct Judged {
     pub candidate: Candidate,
     pub windows: Windows,

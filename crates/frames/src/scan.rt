@@ -18,7 +18,7 @@ use crate::{frame, many, ubx};
 use bits::crc;
 
 // What the scan comes to next: a frame, with its place and its length; or the place from which on the bytes are held.
-#[derive(Drop)]
+#[derive(Clone, Copy)]
 pub enum Next {
     Frame { place: usize, length: usize },
     Held(usize),
@@ -43,7 +43,7 @@ pub fn next_frame(bytes: &[u8], from: usize) -> Next
 
 // What a search finds. More: no frame, and so many bytes to skip. Frame: the bytes to skip before it, its length, and the
 // bytes of the piece that were needed.
-#[derive(Drop)]
+#[derive(Clone, Copy)]
 pub(crate) enum Searched {
     More(usize),
     Frame(usize, usize, usize),
@@ -309,7 +309,7 @@ fn has(part: &[u8], i: usize, x: u8) -> bool
 }
 
 // What a check says of the candidate at a start byte: incomplete; or not valid, or good, by so many bytes.
-#[derive(Drop)]
+#[derive(Clone, Copy)]
 pub(crate) enum Candidate {
     Incomplete,
     NotValid(usize),

@@ -11,7 +11,7 @@ use crate::{frame, scan};
 
 // What a scanner knows beside the bytes it holds: how many they are, how many bytes it took since it was fresh, and what
 // it was opened for: 0 is RTCM only, 1 is RTCM and UBX.
-#[derive(Drop)]
+#[derive(Clone, Copy)]
 pub struct Scanner {
     pub count: usize,
     pub taken: u64,
@@ -19,7 +19,7 @@ pub struct Scanner {
 }
 
 // The kinds of frames.
-#[derive(Drop)]
+#[derive(Clone, Copy)]
 pub enum Kind {
     Rtcm,
     Ubx,
@@ -27,7 +27,7 @@ pub enum Kind {
 
 // What a call answers: More, or a frame at the front of the output with its stream place and its kind; the bytes taken
 // of the piece and the bytes skipped in this call, and the scanner from now on; or a refusal.
-#[derive(Drop)]
+#[derive(Clone, Copy)]
 pub enum Fed {
     More {
         taken: usize,

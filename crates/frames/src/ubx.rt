@@ -8,7 +8,7 @@ use crate::scan::Candidate;
 use crate::{frame, scan};
 
 // The two running sums, each modulo 256: of the bytes, and of the first sum after each byte.
-#[derive(Drop)]
+#[derive(Clone, Copy)]
 pub(crate) struct Sums {
     first: u32,
     second: u32,

@@ -1,0 +1,13 @@
+-- The first two bytes hold the number. Assumes nothing.
+use native.Mathlib.Omega.{arith}
+use borrow.Author.Rules.{rules}
+use Rattle.frames.proofs.FrameLaws.{number_absent, number_is}
+use Rattle.frames.proofs.frame.number_of.Goals as goal
+
+pub returns-then-data-lt2 : goal.returns-then-data-lt2
+returns-then-data-lt2 c = number_absent c.args.«data».now (omega arith)
+
+pub returns : goal.returns
+returns c =
+    let d = c.args.«data».now in
+    number_is d _ _ (omega arith) c.wide.ensures.0 c.wide-2.ensures.0 c.wide.ensures.1 c.wide-2.ensures.1

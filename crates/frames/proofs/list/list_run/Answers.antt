@@ -1,0 +1,112 @@
+-- The loop has come to place i with k frames listed, no earlier than where it began. Assumes nothing.
+use mathlib.Core.Path.{refl}
+use mathlib.Core.List.{◌++◌}
+use Prim.Native.Nat.{◌-◌, ◌≤◌}
+use native.Mathlib.Omega.{arith}
+use lib.ListN.{length, drop, length-append}
+use borrow.Author.Rules.{rules}
+use Rattle.frames.specs.Scan.{scan}
+use Rattle.frames.specs.Framing.{decide}
+use Rattle.frames.specs.Modes.{framing_of}
+use Rattle.frames.specs.Steps.{starts_in}
+use Rattle.frames.specs.ListSteps.{list_on}
+use Rattle.frames.proofs.ModeLaws.{lawful}
+use Rattle.frames.proofs.StartLaws.{mode_starts}
+use Rattle.frames.proofs.ListLaws.{Came, by_numbers, reached_so, stops_at, good_few, good_inside, lists}
+use Rattle.frames.proofs.list.list_run.Goals as goal
+
+pub loop-k-init : goal.loop-k-init
+loop-k-init c =
+    let a = c.args in
+    let p = c.requires.1 in
+    (record { leads = refl; inside = omega (arith, p.inside, length-append a.held.now a.piece.now); counted = p.counted; each = p.each; most = p.most; starts = refl; lengths = refl }, omega arith)
+
+pub frame_here-n-requires : goal.frame_here-n-requires
+frame_here-n-requires c =
+    let a = c.args in
+    let p = c.requires.0 in
+    (omega (arith, c.loop-k.invariant.0.inside, length-append a.held.now a.piece.now), omega (arith, p.held, p.piece))
+
+pub shape_of-starts-then-n-eq0 : goal.shape_of-starts-then-n-eq0
+shape_of-starts-then-n-eq0 c = c.loop-k.invariant.0.starts
+
+pub shape_of-lengths-then-n-eq0 : goal.shape_of-lengths-then-n-eq0
+shape_of-lengths-then-n-eq0 c = c.loop-k.invariant.0.lengths
+
+pub returns-then-n-eq0 : goal.returns-then-n-eq0
+returns-then-n-eq0 c =
+    let a = c.args in
+    let l = c.loop-k.invariant.0 in (
+      reached_so _ _ c.ended.ensures (omega (arith, l.inside, length-append a.held.now a.piece.now)) l.counted l.each l.most,
+      by_numbers _ _ _ c.loop-k.starts c.loop-k.lengths c.ended.ensures l.leads,
+      omega (arith, c.loop-k.invariant.1, stops_at c.ended.ensures),
+    )
+
+pub overflow_cast-starts : goal.overflow_cast-starts
+overflow_cast-starts c =
+    let a = c.args in
+    let p = c.requires.0 in
+    omega (arith, p.held, p.piece, c.loop-k.invariant.0.inside, length-append a.held.now a.piece.now)
+
+pub offset_bounds-starts-k : goal.offset_bounds-starts-k
+offset_bounds-starts-k c =
+    let a = c.args in
+    let p = c.requires.0 in
+    let l = c.loop-k.invariant.0 in
+    record { fits = omega (arith, p.held, p.piece, l.each, l.counted, l.inside, length-append a.held.now a.piece.now) }
+
+pub bounds-starts-k : goal.bounds-starts-k
+bounds-starts-k c = omega (arith, c.loop-k.invariant.0.starts, c.requires.0.starts)
+
+pub overflow_cast-lengths : goal.overflow_cast-lengths
+overflow_cast-lengths c = omega (arith, good_few _ _ _ _ _ _ _ _ _ _ _ _ _ _ c.loop-k.invariant.0 c.loop-k-test.true _ (c.frame_here-n.ensures c.if-n-eq0.false))
+
+pub offset_bounds-lengths-k : goal.offset_bounds-lengths-k
+offset_bounds-lengths-k c =
+    let a = c.args in
+    let p = c.requires.0 in
+    let l = c.loop-k.invariant.0 in
+    record { fits = omega (arith, p.held, p.piece, l.each, l.counted, l.inside, length-append a.held.now a.piece.now) }
+
+pub bounds-lengths-k : goal.bounds-lengths-k
+bounds-lengths-k c = omega (arith, c.loop-k.invariant.0.lengths, c.requires.0.lengths)
+
+pub overflow_add-framed : goal.overflow_add-framed
+overflow_add-framed c =
+    let a = c.args in
+    let p = c.requires.0 in
+    record { fits = omega (arith, p.held, p.piece, c.loop-k.invariant.0.counted, length-append a.held.now a.piece.now, good_inside _ _ _ _ _ _ _ _ _ _ _ _ _ _ c.loop-k.invariant.0 c.loop-k-test.true _ (c.frame_here-n.ensures c.if-n-eq0.false)) }
+
+pub overflow_add-k : goal.overflow_add-k
+overflow_add-k c =
+    let a = c.args in
+    let p = c.requires.0 in
+    let l = c.loop-k.invariant.0 in
+    record { fits = omega (arith, p.held, p.piece, l.each, l.counted, l.inside, length-append a.held.now a.piece.now) }
+
+pub overflow_add-i : goal.overflow_add-i
+overflow_add-i c =
+    let a = c.args in
+    let p = c.requires.0 in
+    record { fits = omega (arith, p.held, p.piece, length-append a.held.now a.piece.now, good_inside _ _ _ _ _ _ _ _ _ _ _ _ _ _ c.loop-k.invariant.0 c.loop-k-test.true _ (c.frame_here-n.ensures c.if-n-eq0.false)) }
+
+pub loop-k-smaller : goal.loop-k-smaller
+loop-k-smaller c = omega arith
+
+pub loop-k-preserved : goal.loop-k-preserved
+loop-k-preserved c = (lists _ _ _ _ _ _ _ _ _ _ _ _ _ _ c.loop-k.invariant.0 c.loop-k-test.true _ (c.frame_here-n.ensures c.if-n-eq0.false), omega (arith, c.loop-k.invariant.1))
+
+pub shape_of-starts : goal.shape_of-starts
+shape_of-starts c = c.loop-k.invariant.0.starts
+
+pub shape_of-lengths : goal.shape_of-lengths
+shape_of-lengths c = c.loop-k.invariant.0.lengths
+
+pub returns : goal.returns
+returns c =
+    let a = c.args in
+    let l = c.loop-k.invariant.0 in (
+      reached_so _ _ c.ended-2.ensures (omega (arith, l.inside, length-append a.held.now a.piece.now)) l.counted l.each l.most,
+      by_numbers _ _ _ c.loop-k.starts c.loop-k.lengths c.ended-2.ensures l.leads,
+      omega (arith, c.loop-k.invariant.1, stops_at c.ended-2.ensures),
+    )

@@ -1,0 +1,25 @@
+-- The loop has come to place i with k frames listed, no earlier than where it began. Assumes nothing.
+use mathlib.Core.Path.{refl}
+use mathlib.Core.List.{◌++◌}
+use Prim.Native.Nat.{◌-◌, ◌≤◌}
+use native.Mathlib.Omega.{arith}
+use lib.ListN.{length, drop, length-append}
+use borrow.Author.Rules.{rules}
+use Rattle.frames.specs.Scan.{scan}
+use Rattle.frames.specs.Framing.{decide}
+use Rattle.frames.specs.Modes.{framing_of}
+use Rattle.frames.specs.Steps.{starts_in}
+use Rattle.frames.specs.ListSteps.{list_on}
+use Rattle.frames.proofs.ModeLaws.{lawful}
+use Rattle.frames.proofs.StartLaws.{mode_starts}
+use Rattle.frames.proofs.ListLaws.{Came, by_numbers, reached_so, stops_at, good_few, good_inside, lists}
+use Rattle.frames.proofs.list.list_run.Given as goal
+
+abbrev pub invariant-loop-k : goal.invariant-loop-k
+invariant-loop-k l =
+    Came (framing_of l.mode) (lawful l.mode) (starts_in l.mode) (mode_starts l.mode) (l.held ++ l.piece) l.places
+    (list_on (l.places - l.initial.k) l.initial.k l.initial.i l.initial.framed (scan (decide (framing_of l.mode)) (drop l.initial.i (l.held ++ l.piece))).items l.initial.starts l.initial.lengths) (length l.initial.starts) (length l.initial.lengths) l.k l.i l.framed l.starts l.lengths
+    × (l.initial.i ≤ l.i)
+
+abbrev pub decreases-loop-k : goal.decreases-loop-k
+decreases-loop-k l = l.places - l.k

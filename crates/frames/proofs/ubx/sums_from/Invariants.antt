@@ -1,0 +1,16 @@
+-- The sums so far, continued over what is left, are those of the whole. Assumes nothing.
+use mathlib.Core.Path.{◌≡◌, refl, sym, ◌∙◌}
+use Prim.Native.Nat.{◌-◌, ◌≤◌, ◌<◌}
+use native.Mathlib.Omega.{arith}
+use lib.ListN.{length, drop}
+use borrow.Author.Rules.{rules}
+use Rattle.frames.specs.Ubx.{sums_from}
+use Rattle.frames.proofs.SumsLaws.{sums_more, sums_end}
+use Rattle.frames.proofs.ubx.sums_from.Given as goal
+
+abbrev pub invariant-loop-i : goal.invariant-loop-i
+invariant-loop-i l =
+    (l.i ≤ length l.bytes) × (sums_from (l.first, l.second) (drop l.i l.bytes) ≡ sums_from (l.initial.first, l.initial.second) l.bytes) × (l.first < 256) × (l.second < 256)
+
+abbrev pub decreases-loop-i : goal.decreases-loop-i
+decreases-loop-i l = length l.bytes - l.i
