@@ -11,7 +11,6 @@ use lib.ListN.{length, get_or, take, drop, length-drop}
 use lib.Seq.{drop-drop, take_all, length-take-le, get_or-drop}
 use lib.Dec.{leb, eqb}
 use borrow.Author.Tests.{lt-ltb, le-ltb, le-leb, lt-leb, leb-true, eq-eqb, ne_eqb, eqb-false}
-use types.Run.{OneOf}
 use denote.Enum.Declared.{tag_of}
 use Rattle.bits.specs.Told.{Told, Accepted, Refused, size, bad_check, OneToOne}
 use Rattle.bits.proofs.ToldLaws.{found_again}
@@ -197,11 +196,8 @@ module _ (s : List ℕ) (q : ℕ) (w : Why) (e : decide rtcm (drop q s) ≡ Skip
         rw (sums.1, ya, yb)
 
     -- and nothing else is answered
-    pub no_other : OneOf (0 ∷ 1 ∷ 3 ∷ []) (tag_of the_type r) → ⊥
-    no_other o = go (subst (λ z. OneOf (0 ∷ 1 ∷ 3 ∷ []) (tag_of the_type z)) answer o)
-      where
-        go : OneOf (0 ∷ 1 ∷ 3 ∷ []) 2 → ⊥
-        go o = ⊎_elim (λ p. omega arith) (λ q. ⊎_elim (λ p. omega arith) (λ p. omega arith) q) o
+    pub no_other : ((a b : ℕ) → r ≡ C.BadCheck a b → ⊥) → ⊥
+    no_other o = o (sent_sum (drop q s)) (own_sum (drop q s)) answer
 
 -- ---- an answer of the code is fixed by what it tells
 

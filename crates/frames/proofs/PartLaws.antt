@@ -6,8 +6,6 @@ use Prim.Native.Nat.{ℕ, ◌+◌, ◌-◌, ◌≤◌, ◌<◌}
 use native.Mathlib.Omega.{arith}
 use lib.ListN.{length}
 use borrow.Author.Tests.{lt-ltb, le-ltb}
-use types.Run.{OneOf}
-use denote.Enum.Declared.{tag_of}
 use Rattle.bits.specs.Told.{Told, Accepted}
 use Rattle.bits.specs.Part.{part, within}
 use Rattle.frames.specs.Frame.{data_length, Whole, check, part_of, data_part, inside_part}
@@ -15,18 +13,17 @@ use Rattle.frames.specs.Answers.{told_number, told_checked}
 use Rattle.frames.specs.declared.frame.Number.{Number}
 use Rattle.frames.specs.declared.frame.Checked.{Checked}
 use Rattle.frames.specs.declared.frame.Checked.TheVariants.{Frame, NoPreamble, BadCheck, Incomplete}
-use Rattle.frames.specs.contracts.frame.Checked.{the_type}
 use Rattle.frames.proofs.FrameLaws.{length_small, good_tells}
 
 -- a refusal hands out nothing, at the start
-nothing : (i : ℕ) (count : Whole → ℕ) (s : List ℕ) (r : Checked) → OneOf (1 ∷ 2 ∷ 3 ∷ []) (tag_of the_type r) → part 0 0 s ≡ part_of i count (told_checked r) s
-nothing i count s (Frame n l m k) o = absurd (⊎_elim (λ p. omega arith) (λ q. ⊎_elim (λ p. omega arith) (λ p. omega arith) q) o)
+nothing : (i : ℕ) (count : Whole → ℕ) (s : List ℕ) (r : Checked) → ((n l : ℕ) (m : Number) (k : ℕ) → r ≡ Frame n l m k → ⊥) → part 0 0 s ≡ part_of i count (told_checked r) s
+nothing i count s (Frame n l m k) o = absurd (o n l m k refl)
 nothing i count s NoPreamble o = refl
 nothing i count s (BadCheck sent computed) o = refl
 nothing i count s Incomplete o = refl
 
 module _ (p : ℕ × ℕ) (s : List ℕ) (r : Checked) (q : told_checked r ≡ check s) where
-  pub refused_part : (i : ℕ) (count : Whole → ℕ) → OneOf (1 ∷ 2 ∷ 3 ∷ []) (tag_of the_type r) → within p (part 0 0 s) ≡ within p (part_of i count (check s) s)
+  pub refused_part : (i : ℕ) (count : Whole → ℕ) → ((n l : ℕ) (m : Number) (k : ℕ) → r ≡ Frame n l m k → ⊥) → within p (part 0 0 s) ≡ within p (part_of i count (check s) s)
   refused_part i count o = ap (within p) (nothing i count s r o ∙ ap (λ (t : Told Whole). part_of i count t s) q)
 
   module _ (n l : ℕ) (m : Number) (k : ℕ) (g : r ≡ Frame n l m k) where

@@ -15,48 +15,40 @@ use Rattle.frames.proofs.MovedLaws.{moved_more, moved_frame_lem}
 use borrow.Author.Rules.{rules}
 use Rattle.frames.proofs.close.carry_out.Goals as goal
 
-module _ (c : tie.After-searched) where
-  here : CanHold (length c.before.before.before.before.args.held.now) c.before.before.before.before.args.scanner.count 0 (More c.searched.given.0.0)
-  here = subst (CanHold (length c.before.before.before.before.args.held.now) c.before.before.before.before.args.scanner.count 0) c.searched.given.1 c.before.before.before.before.requires.5
-
-module _ (c : tie.After-searched2) where
-  there : CanHold (length c.before.before.before.before.args.held.now) c.before.before.before.before.args.scanner.count 0 (Frame c.searched2.given.0.0 c.searched2.given.0.1.0 c.searched2.given.0.1.1.0)
-  there = subst (CanHold (length c.before.before.before.before.args.held.now) c.before.before.before.before.args.scanner.count 0) c.searched2.given.1 c.before.before.before.before.requires.5
-
 pub overflow_sub-count : goal.overflow_sub-count
-overflow_sub-count c = omega (arith, here c)
+overflow_sub-count c = omega (arith, (subst (CanHold (length c.args.held.now) c.args.scanner.count 0) c.in-More.is c.requires.5))
 
 pub shift-requires : goal.shift-requires
-shift-requires c = omega (arith, here c, c.requires.0)
+shift-requires c = omega (arith, (subst (CanHold (length c.args.held.now) c.args.scanner.count 0) c.in-More.is c.requires.5), c.requires.0)
 
 pub overflow_sub-count-in-More : goal.overflow_sub-count-in-More
-overflow_sub-count-in-More c = omega (arith, here c)
+overflow_sub-count-in-More c = omega (arith, (subst (CanHold (length c.args.held.now) c.args.scanner.count 0) c.in-More.is c.requires.5))
 
 pub overflow_add-behind : goal.overflow_add-behind
-overflow_add-behind c = record { fits = omega (arith, there c) }
+overflow_add-behind c = record { fits = omega (arith, (subst (CanHold (length c.args.held.now) c.args.scanner.count 0) c.in-Frame.is c.requires.5)) }
 
 pub slice_bounds-put_at-end : goal.slice_bounds-put_at-end
-slice_bounds-put_at-end c = let k = there c in omega (arith, k, c.requires.0)
+slice_bounds-put_at-end c = let k = (subst (CanHold (length c.args.held.now) c.args.scanner.count 0) c.in-Frame.is c.requires.5) in omega (arith, k, c.requires.0)
 
 pub put_at-requires : goal.put_at-requires
-put_at-requires c = let k = there c in omega (arith, k)
+put_at-requires c = let k = (subst (CanHold (length c.args.held.now) c.args.scanner.count 0) c.in-Frame.is c.requires.5) in omega (arith, k)
 
 pub overflow_sub-count-in-Frame : goal.overflow_sub-count-in-Frame
-overflow_sub-count-in-Frame c = omega (arith, there c)
+overflow_sub-count-in-Frame c = omega (arith, (subst (CanHold (length c.args.held.now) c.args.scanner.count 0) c.in-Frame.is c.requires.5))
 
 pub shift-requires-in-Frame : goal.shift-requires-in-Frame
-shift-requires-in-Frame c = omega (arith, there c)
+shift-requires-in-Frame c = omega (arith, (subst (CanHold (length c.args.held.now) c.args.scanner.count 0) c.in-Frame.is c.requires.5))
 
 pub overflow_add-result : goal.overflow_add-result
-overflow_add-result c = record { fits = omega (arith, there c) }
+overflow_add-result c = record { fits = omega (arith, (subst (CanHold (length c.args.held.now) c.args.scanner.count 0) c.in-Frame.is c.requires.5)) }
 
 pub overflow_sub-count-in-Frame-2 : goal.overflow_sub-count-in-Frame-2
-overflow_sub-count-in-Frame-2 c = omega (arith, there c)
+overflow_sub-count-in-Frame-2 c = omega (arith, (subst (CanHold (length c.args.held.now) c.args.scanner.count 0) c.in-Frame.is c.requires.5))
 
 pub returns-in-More : goal.returns-in-More
 returns-in-More c =
     let a = c.args in
-    let k = here c in
+    let k = (subst (CanHold (length c.args.held.now) c.args.scanner.count 0) c.in-More.is c.requires.5) in
     moved_more a.held.now (known a.scanner) [] a.out.now c.in-More.i _ _ _ (omega arith) c.onwards.ensures
     (c.shift.ensures ∙ slide_alone a.held.now [] a.scanner.count c.in-More.i (omega arith) (omega (arith, k)))
     ∙ ap (moved a.held.now (known a.scanner) [] a.out.now) (sym c.in-More.is)
@@ -64,7 +56,7 @@ returns-in-More c =
 pub returns-in-Frame : goal.returns-in-Frame
 returns-in-Frame c =
     let a = c.args in
-    let k = there c in
+    let k = (subst (CanHold (length c.args.held.now) c.args.scanner.count 0) c.in-Frame.is c.requires.5) in
     let none : c.in-Frame.field-2 ≡ 0 = omega (arith, k) in
     let empty = none_taken (0 - 0) in
     moved_frame_lem a.held.now (known a.scanner) [] a.out.now c.in-Frame.i c.in-Frame.length 0 _ _ _ _ _ _ (omega arith) (omega (arith, empty)) refl c.kind_of.ensures c.onwards-in-Frame.ensures

@@ -10,22 +10,6 @@ use Rattle.frames.proofs.CallLaws.{Fits, wrong_area, wrong_count, over_taken, ov
 use Rattle.frames.proofs.EndLaws.{refuses, end_can_hold, end_closes}
 use Rattle.frames.proofs.close.close.Goals as goal
 
-module _ (c : tie.After-find-at-end) where
-  abbrev area : List ℕ
-  area = c.before.before.before.before.before.before.before.before.before.before.before.before.before.before.before.args.held.now
-
-  abbrev scanner : Scanner
-  scanner = known c.before.before.before.before.before.before.before.before.before.before.before.before.before.before.before.args.scanner
-
-  abbrev mode : ℕ
-  mode = c.before.before.before.before.before.before.before.before.before.before.before.before.before.before.before.args.scanner.mode
-
-  abbrev out : List ℕ
-  out = c.before.before.before.before.before.before.before.before.before.before.before.before.before.before.before.args.out.now
-
-  fits : Fits area scanner [] out
-  fits = record { area = omega arith; count = omega arith; held = omega arith; taken = omega arith; mode = omega arith; piece = omega arith; limit = omega arith; output = omega arith }
-
 pub returns-then-held-ne1029 : goal.returns-then-held-ne1029
 returns-then-held-ne1029 c = refuses _ _ _ _ (wrong_area _ _ _ _ _ c.if-held-ne1029.true)
 
@@ -46,8 +30,12 @@ returns-then-out-lt1029 c = refuses _ _ _ _ (small_output _ _ _ _ _ (omega arith
 
 pub carry_out-requires : goal.carry_out-requires
 carry_out-requires c =
-    (omega arith, omega arith, omega arith, omega arith, omega arith, end_can_hold (mode c) (area c) (scanner c) (out c) (fits c) _ c.find_at_end-searched.ensures)
+    let a = c.args in
+    let f : Fits a.held.now (known a.scanner) [] a.out.now = record { area = omega arith; count = omega arith; held = omega arith; taken = omega arith; mode = omega arith; piece = omega arith; limit = omega arith; output = omega arith } in
+    (omega arith, omega arith, omega arith, omega arith, omega arith, end_can_hold a.scanner.mode a.held.now (known a.scanner) a.out.now f _ c.find_at_end-searched.ensures)
 
 pub returns : goal.returns
 returns c =
-    end_closes (mode c) (area c) (scanner c) (out c) (fits c) _ c.find_at_end-searched.ensures c.carry_out.ensures c.ended.ensures
+    let a = c.args in
+    let f : Fits a.held.now (known a.scanner) [] a.out.now = record { area = omega arith; count = omega arith; held = omega arith; taken = omega arith; mode = omega arith; piece = omega arith; limit = omega arith; output = omega arith } in
+    end_closes a.scanner.mode a.held.now (known a.scanner) a.out.now f _ c.find_at_end-searched.ensures c.carry_out.ensures c.ended.ensures

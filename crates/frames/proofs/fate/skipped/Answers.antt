@@ -11,7 +11,7 @@ returns-then-recording-place c = λ w e.
 pub returns-in_default : goal.returns-in_default
 returns-in_default c = λ w e.
     let a = c.args in
-    absurd (no_other a.recording.now a.place w e c.if-recording-place.false c.check.result (checked_all a.recording.now a.place c.check.ensures) c.in_default.keys2)
+    absurd (no_other a.recording.now a.place w e c.if-recording-place.false c.check.result (checked_all a.recording.now a.place c.check.ensures) c.in_default.not-BadCheck)
 
 pub returns : goal.returns
 returns c = λ w e.

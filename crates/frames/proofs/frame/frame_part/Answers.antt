@@ -9,7 +9,7 @@ use Rattle.frames.proofs.frame.frame_part.Goals as goal
 pub returns-in_default : goal.returns-in_default
 returns-in_default c =
     let a = c.args.bytes in
-    refused_part a.ref_ptr a.now c.check.result c.check.ensures 0 (λ w. w.length) c.in_default.keys2
+    refused_part a.ref_ptr a.now c.check.result c.check.ensures 0 (λ w. w.length) c.in_default.not-Frame
 
 pub slice_bounds-result-end-2 : goal.slice_bounds-result-end-2
 slice_bounds-result-end-2 c =

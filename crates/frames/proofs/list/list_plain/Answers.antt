@@ -89,7 +89,7 @@ shape_of-lengths-then-i-failed c = ◌∙◌ {b = length c.loop-k.lengths} (sear
 pub returns-then-i-failed : goal.returns-then-i-failed
 returns-then-i-failed c =
     let w = passes _ _ _ _ _ _ _ _ _ _ _ _ _ _ (at_start _ _ _ _ _ _ _ _ _ _ _ _ _ _ c.loop-k.invariant.0 c.loop-k-test.true _ c.next_start-j.ensures) c.loop-k-test.true _ (sym c.in-NotValid.is ∙ c.candidate_at.ensures) in
-    goes_on _ _ _ c.loop-k.starts c.loop-k.lengths c.ended-at.ensures c.list_on.ensures ∙ w.leads
+    goes_on (framing_of c.args.mode) _ _ c.loop-k.starts c.loop-k.lengths c.ended-at.ensures c.list_on.ensures ∙ w.leads
 
 pub loop-k-smaller-else-i-failed : goal.loop-k-smaller-else-i-failed
 loop-k-smaller-else-i-failed c = omega (arith, c.next_start-j.ensures.from)
@@ -164,7 +164,7 @@ loop-k-preserved c =
     let w = lists _ _ _ _ _ _ _ _ _ _ _ _ _ _ (at_start _ _ _ _ _ _ _ _ _ _ _ _ _ _ c.loop-k.invariant.0 c.loop-k-test.true _ c.next_start-j.ensures) c.loop-k-test.true _ (sym c.in-Good.is ∙ c.candidate_at.ensures) in
     let r = c.list_run-run.ensures in (
       record {
-        leads = r.1 ∙ by_numbers _ _ _ (set c.loop-k.starts c.loop-k.k c.next_start-j.result) (set c.loop-k.lengths c.loop-k.k c.in-Good.n) c.ended-at-in-Good.ensures w.leads;
+        leads = r.1 ∙ by_numbers (framing_of c.args.mode) _ _ (set c.loop-k.starts c.loop-k.k c.next_start-j.result) (set c.loop-k.lengths c.loop-k.k c.in-Good.n) c.ended-at-in-Good.ensures w.leads;
         inside = omega (arith, r.0.inside, length-append a.held.now a.piece.now);
         counted = r.0.counted;
         each = r.0.each;

@@ -38,7 +38,7 @@ returns-then-n-eq0 c =
     let a = c.args in
     let l = c.loop-k.invariant.0 in (
       reached_so _ _ c.ended.ensures (omega (arith, l.inside, length-append a.held.now a.piece.now)) l.counted l.each l.most,
-      by_numbers _ _ _ c.loop-k.starts c.loop-k.lengths c.ended.ensures l.leads,
+      by_numbers (framing_of c.args.mode) _ _ c.loop-k.starts c.loop-k.lengths c.ended.ensures l.leads,
       omega (arith, c.loop-k.invariant.1, stops_at c.ended.ensures),
     )
 
@@ -107,6 +107,6 @@ returns c =
     let a = c.args in
     let l = c.loop-k.invariant.0 in (
       reached_so _ _ c.ended-2.ensures (omega (arith, l.inside, length-append a.held.now a.piece.now)) l.counted l.each l.most,
-      by_numbers _ _ _ c.loop-k.starts c.loop-k.lengths c.ended-2.ensures l.leads,
+      by_numbers (framing_of c.args.mode) _ _ c.loop-k.starts c.loop-k.lengths c.ended-2.ensures l.leads,
       omega (arith, c.loop-k.invariant.1, stops_at c.ended-2.ensures),
     )

@@ -26,7 +26,7 @@ pub loop-k-init : goal.loop-k-init
 loop-k-init c =
     let a = c.args in
     let p = c.requires in
-    let w = c.before.before.«open».ensures in
+    let w = c.open-near.ensures in
     let b = c.begun-at.ensures in
     let l = length-append a.held.now a.piece.now in (
       record { leads = refl; inside = omega (arith, p.1.inside, l); counted = p.1.counted; each = p.1.each; most = p.1.most; starts = refl; lengths = refl },

@@ -26,7 +26,7 @@ pub loop-k-init : goal.loop-k-init
 loop-k-init c =
     let a = c.args in
     let p = c.requires.1 in
-    let w = c.before.«open».ensures in
+    let w = c.open-near.ensures in
     (record { leads = refl; inside = omega (arith, p.inside, length-append a.held.now a.piece.now); counted = p.counted; each = p.each; most = p.most; starts = refl; lengths = refl }, omega (arith, w.0), w.2, w.3)
 
 pub next_start-at-requires : goal.next_start-at-requires

@@ -21,7 +21,7 @@ pub loop-i-init : goal.loop-i-init
 loop-i-init c =
     let p = c.requires in
     let a = c.args in
-    let w = c.before.before.«open».ensures in
+    let w = c.open-near.ensures in
     let b = c.begun-at.ensures in
     let l = length-append a.held.now a.piece.now in (
       record { behind = p.1; reached = p.0 },

@@ -18,7 +18,7 @@ pub open-near-requires : goal.open-near-requires
 open-near-requires c = let p = c.requires in (omega (arith, p.0.0, p.0.1, p.1), p.2, omega arith, refl)
 
 pub loop-i-init : goal.loop-i-init
-loop-i-init c = let p = c.requires in (record { behind = p.1; reached = p.0 }, omega (arith, c.before.«open».ensures.0), c.before.«open».ensures.2, c.before.«open».ensures.3)
+loop-i-init c = let p = c.requires in (record { behind = p.1; reached = p.0 }, omega (arith, c.open-near.ensures.0), c.open-near.ensures.2, c.open-near.ensures.3)
 
 pub next_start-j-requires : goal.next_start-j-requires
 next_start-j-requires c = (omega arith, omega arith)

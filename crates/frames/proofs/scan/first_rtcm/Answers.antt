@@ -20,9 +20,6 @@ loop-i-init c = (came_first _ _ _ _ _ _, omega arith)
 pub overflow_add-i : goal.overflow_add-i
 overflow_add-i c = record { fits = omega arith }
 
-pub overflow_add-i : goal.overflow_add-i
-overflow_add-i c = record { fits = omega arith }
-
 pub find_on-requires : goal.find_on-requires
 find_on-requires c = let l = c.loop-i.invariant.0 in (l.reached, l.behind, omega arith)
 

@@ -11,25 +11,6 @@ use Rattle.frames.proofs.MovedLaws.{searched_can_hold, searched_moves}
 use borrow.Author.Rules.{rules}
 use Rattle.frames.proofs.scanner.feed.Goals as goal
 
-module _ (c : tie.After-find-frame) where
-  abbrev area : List ℕ
-  area = c.before.before.before.before.before.before.before.before.before.before.before.before.before.before.before.before.before.before.before.args.held.now
-
-  abbrev scanner : Scanner
-  scanner = known c.before.before.before.before.before.before.before.before.before.before.before.before.before.before.before.before.before.before.before.args.scanner
-
-  abbrev mode : ℕ
-  mode = c.before.before.before.before.before.before.before.before.before.before.before.before.before.before.before.before.before.before.before.args.scanner.mode
-
-  abbrev piece : List ℕ
-  piece = c.before.before.before.before.before.before.before.before.before.before.before.before.before.before.before.before.before.before.before.args.piece.now
-
-  abbrev out : List ℕ
-  out = c.before.before.before.before.before.before.before.before.before.before.before.before.before.before.before.before.before.before.before.args.out.now
-
-  fits : Fits area scanner piece out
-  fits = record { area = omega arith; count = omega arith; held = omega arith; taken = omega arith; mode = omega arith; piece = omega arith; limit = omega arith; output = omega arith }
-
 pub returns-then-held-ne1029 : goal.returns-then-held-ne1029
 returns-then-held-ne1029 c = sym (wrong_area _ _ _ _ _ c.if-held-ne1029.true)
 
@@ -56,8 +37,12 @@ returns-then-out-lt1029 c = sym (small_output _ _ _ _ _ (omega arith) (omega ari
 
 pub carry_out-requires : goal.carry_out-requires
 carry_out-requires c =
-    (omega arith, omega arith, omega arith, omega arith, omega arith, searched_can_hold (mode c) (area c) (scanner c) (piece c) (out c) (fits c) _ c.find_frame-searched.ensures)
+    let a = c.args in
+    let f : Fits a.held.now (known a.scanner) a.piece.now a.out.now = record { area = omega arith; count = omega arith; held = omega arith; taken = omega arith; mode = omega arith; piece = omega arith; limit = omega arith; output = omega arith } in
+    (omega arith, omega arith, omega arith, omega arith, omega arith, searched_can_hold a.scanner.mode a.held.now (known a.scanner) a.piece.now a.out.now f _ c.find_frame-searched.ensures)
 
 pub returns : goal.returns
 returns c =
-    c.carry_out.ensures ∙ searched_moves (mode c) (area c) (scanner c) (piece c) (out c) (fits c) _ c.find_frame-searched.ensures
+    let a = c.args in
+    let f : Fits a.held.now (known a.scanner) a.piece.now a.out.now = record { area = omega arith; count = omega arith; held = omega arith; taken = omega arith; mode = omega arith; piece = omega arith; limit = omega arith; output = omega arith } in
+    c.carry_out.ensures ∙ searched_moves a.scanner.mode a.held.now (known a.scanner) a.piece.now a.out.now f _ c.find_frame-searched.ensures

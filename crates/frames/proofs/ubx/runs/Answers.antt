@@ -14,7 +14,7 @@ pub overflow_add-first : goal.overflow_add-first
 overflow_add-first c = record { fits = omega (arith, c.loop-k.invariant.first_small, c.wide.ensures.1) }
 
 pub overflow_add-second : goal.overflow_add-second
-overflow_add-second c = record { fits = omega (arith, c.loop-k.invariant.second-small) }
+overflow_add-second c = record { fits = omega (arith, c.loop-k.invariant.second_small) }
 
 pub overflow_mul-out : goal.overflow_mul-out
 overflow_mul-out c = record { fits = omega arith }
