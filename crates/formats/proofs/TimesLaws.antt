@@ -12,7 +12,7 @@ use Rattle.bits.specs.Told.{Accepted, Refused, and_then}
 use Rattle.bits.specs.Field.{Reading, reading}
 use Rattle.bits.specs.Fields.{Field, total, Holds, Fit}
 use Rattle.bits.proofs.FieldsLaws.{total_none, holds_none, fit_none, total_append, holds_append, fit_append}
-use Rattle.formats.specs.Format.{Format, next, times, fit_each, fields_each, read_each}
+use Rattle.formats.specs.Format.{Format, times, fit_each, fields_each, read_each}
 use Rattle.formats.specs.Faithful.{Stands, Faithful, Cut, OnlyShort}
 use Rattle.formats.proofs.NextLaws.{then_accepted, cut_then, both_true, true_both, next_stands}
 

@@ -2,7 +2,6 @@
 use mathlib.Core.Path.{◌≡◌, refl, sym, ap, ◌∙◌, subst}
 use mathlib.Core.Bool.{Bool, true, false, cond}
 use mathlib.Core.List.{List, [], ◌∷◌, ◌++◌, append-nil, append_assoc}
-use mathlib.Core.Logic.{⊎_elim}
 use Prim.Native.Nat.{ℕ, suc, ◌+◌, ◌-◌, ◌≤◌, ◌<◌}
 use native.Mathlib.Nat.{add-zero}
 use native.Mathlib.Omega.{arith}
@@ -11,7 +10,6 @@ use lib.ListN.{length, get_or, take, drop, length-drop}
 use lib.Seq.{drop-drop, take_all, length-take-le, get_or-drop}
 use lib.Dec.{leb, eqb}
 use borrow.Author.Tests.{lt-ltb, le-ltb, le-leb, lt-leb, leb-true, eq-eqb, ne_eqb, eqb-false}
-use denote.Enum.Declared.{tag_of}
 use Rattle.bits.specs.Told.{Told, Accepted, Refused, size, bad_check, OneToOne}
 use Rattle.bits.proofs.ToldLaws.{found_again}
 use Rattle.frames.specs.Scan.{Decision, Skip, Take, Wait, Item, Skipped, Framed, Scanned, scan, frames_of}
@@ -27,7 +25,6 @@ use Rattle.frames.specs.declared.fate.Fate as code
 use Rattle.frames.specs.declared.fate.Fate.TheVariants as F
 use Rattle.frames.specs.declared.frame.Checked.{Checked}
 use Rattle.frames.specs.declared.frame.Checked.TheVariants as C
-use Rattle.frames.specs.contracts.frame.Checked.{the_type}
 use Rattle.frames.proofs.FramingLaws.{decides}
 use Rattle.frames.proofs.FrameLaws.{sums_differ}
 use Rattle.frames.proofs.RtcmLaws.{rtcm_lawful}

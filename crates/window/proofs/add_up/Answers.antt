@@ -1,11 +1,8 @@
 -- The tails from place k on are stored. Assumes nothing.
 use mathlib.Core.Path.{◌∙◌}
-use Prim.Native.Nat.{◌-◌}
 use native.Mathlib.Omega.{arith}
 use lib.ListN.{length, length-set}
-use borrow.Author.Rules.{rules}
-use Rattle.window.proofs.FillLaws.{Filling}
-use Rattle.window.proofs.SumLaws.{weight_at, adding_first, adding_more, adding_end}
+use Rattle.window.proofs.SumLaws.{adding_first, adding_more, adding_end}
 use Rattle.window.proofs.add_up.Goals as goal
 
 pub loop-k-init : goal.loop-k-init

@@ -3,7 +3,6 @@ use mathlib.Core.Path.{◌≡◌, ◌∙◌, subst}
 use Prim.Native.Nat.{ℕ, ◌-◌}
 use lib.ListN.{length, set, length-set}
 use native.Mathlib.Omega.{arith}
-use borrow.Author.Rules.{rules}
 use Rattle.window.proofs.FillLaws.{Filling, filling_first, filling_more, filling_end}
 use Rattle.window.proofs.fill.Goals as goal
 

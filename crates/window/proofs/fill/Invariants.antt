@@ -1,10 +1,5 @@
 -- The tails from place k on are stored. Assumes nothing.
-use mathlib.Core.Path.{◌≡◌, ◌∙◌, subst}
-use Prim.Native.Nat.{ℕ, ◌-◌}
-use lib.ListN.{length, set, length-set}
-use native.Mathlib.Omega.{arith}
-use borrow.Author.Rules.{rules}
-use Rattle.window.proofs.FillLaws.{Filling, filling_first, filling_more, filling_end}
+use Rattle.window.proofs.FillLaws.{Filling}
 use Rattle.window.proofs.fill.Given as goal
 
 abbrev pub invariant-loop-k : goal.invariant-loop-k

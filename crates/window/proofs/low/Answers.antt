@@ -1,5 +1,4 @@
 -- The low bits, and what the bits above them add. Assumes nothing.
-use borrow.Author.Rules.{rules}
 use Rattle.window.proofs.HalfLaws.{by_halves}
 use Rattle.window.proofs.low.Goals as goal
 

@@ -1,11 +1,10 @@
 -- The products of the first k bytes are stored. Assumes nothing.
 use mathlib.Core.Path.{sym, ap, ◌∙◌, subst}
-use Prim.Native.Nat.{ℕ, ◌-◌, ◌^◌, ◌<◌}
+use Prim.Native.Nat.{ℕ, ◌^◌, ◌<◌}
 use native.Mathlib.Omega.{arith}
-use lib.ListN.{length, get_or}
-use borrow.Author.Rules.{rules}
+use lib.ListN.{get_or}
 use Rattle.window.specs.Steps.{times}
-use Rattle.window.proofs.SumLaws.{weight_small, weight_of, Taking, taking_first, taking_more, taking_end}
+use Rattle.window.proofs.SumLaws.{weight_small, weight_of, taking_first, taking_more, taking_end}
 use Rattle.window.proofs.products.Goals as goal
 
 pub loop-k-init : goal.loop-k-init

@@ -5,7 +5,6 @@ use Rattle.window.specs.Weights.{weights}
 use Rattle.window.proofs.FillLaws.{no_room, with_room}
 use Rattle.window.proofs.WeightLaws.{weights_are}
 use Rattle.window.proofs.SumLaws.{onto_same}
-use borrow.Author.Rules.{rules}
 use Rattle.window.proofs.tails.Goals as goal
 
 pub returns-then-out-part : goal.returns-then-out-part

@@ -1,12 +1,8 @@
 -- The low 24 bits of the checksum so far, continued over what is left, are the whole. Assumes nothing.
-use mathlib.Core.Path.{◌≡◌, refl, sym, ◌∙◌}
+use mathlib.Core.Path.{◌≡◌}
 use Prim.Native.Nat.{◌-◌, ◌%◌, ◌^◌, ◌≤◌}
-use native.Mathlib.Omega.{arith}
 use lib.ListN.{length, drop}
-use borrow.Author.Rules.{rules}
 use Rattle.bits.specs.Crc.{crc_from}
-use Rattle.bits.proofs.CrcLaws.{from_end}
-use Rattle.bits.proofs.TableLaws.{more}
 use Rattle.bits.proofs.crc.by_table.Given as goal
 
 abbrev pub invariant-loop-i : goal.invariant-loop-i

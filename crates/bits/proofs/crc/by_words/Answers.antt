@@ -5,7 +5,6 @@ use native.Mathlib.Omega.{arith}
 use lib.ListN.{length}
 use Rattle.bits.proofs.CrcLaws.{crc_is}
 use Rattle.bits.proofs.StepLaws.{first_word}
-use borrow.Author.Rules.{rules}
 use Rattle.bits.proofs.crc.by_words.Goals as goal
 
 pub returns : goal.returns

@@ -1,6 +1,5 @@
 -- Fewer than eight bytes by the table, else words. Assumes nothing.
 use mathlib.Core.Path.{sym, ◌∙◌}
-use borrow.Author.Rules.{rules}
 use Rattle.bits.proofs.CrcLaws.{crc_is}
 use Rattle.bits.proofs.crc.crc24q.Goals as goal
 

@@ -2,7 +2,6 @@
 use mathlib.Core.Path.{sym, ap}
 use Prim.Native.Nat.{ℕ}
 use native.Mathlib.Omega.{arith}
-use borrow.Author.Rules.{rules}
 use Rattle.bits.specs.Told.{short}
 use Rattle.bits.specs.Field.{Reading}
 use Rattle.bits.proofs.ReadLaws.{missing_all, missing_some}

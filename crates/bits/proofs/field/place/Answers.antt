@@ -1,7 +1,6 @@
 -- Room where the data ends too early, else the field is put. Assumes nothing.
 use mathlib.Core.Path.{ap, ◌∙◌}
 use native.Mathlib.Omega.{arith}
-use borrow.Author.Rules.{rules}
 use Rattle.bits.specs.Told.{Accepted}
 use Rattle.bits.specs.Outcome.{outcome}
 use Rattle.bits.proofs.WriteLaws.{no_room, has_room}

@@ -2,7 +2,6 @@
 use mathlib.Core.Path.{sym, ap, ◌∙◌}
 use mir.Syntax.{w64}
 use mir.ValLaws.{to_z-of_z}
-use borrow.Author.Rules.{rules}
 use Rattle.bits.specs.Signed.{signmag_of}
 use Rattle.bits.specs.Answers.{told_unsigned}
 use Rattle.bits.proofs.ReadLaws.{value_as, refused_as, value_tells}

@@ -3,8 +3,6 @@ use mathlib.Core.Path.{sym, ap, ◌∙◌}
 use native.Mathlib.Omega.{arith}
 use mir.Syntax.{w64}
 use mir.ValLaws.{to_z-of_z}
-use borrow.Author.Rules.{rules}
-use borrow.Author.Tests.{not-true, not-false}
 use Rattle.bits.specs.Signed.{fits_twos, twos_bits}
 use Rattle.bits.specs.Steps.{put_where_room}
 use Rattle.bits.proofs.LimitLaws.{kept}

@@ -1,8 +1,6 @@
 -- Each answer is the one that the limits, the range and the place ask for. Assumes nothing.
 use mathlib.Core.Path.{sym, ◌∙◌}
 use native.Mathlib.Omega.{arith}
-use borrow.Author.Rules.{rules}
-use borrow.Author.Tests.{not-true, not-false}
 use Rattle.bits.proofs.LimitLaws.{kept}
 use Rattle.bits.proofs.WriteLaws.{write_size, write_width, write_range, write_where_room}
 use Rattle.bits.proofs.field.write_unsigned.Goals as goal

@@ -1,7 +1,6 @@
 -- The two halves of the word, each folded by itself. Assumes nothing.
 use mathlib.Core.Path.{ap₂}
 use lib.Bits.{bit_xor}
-use borrow.Author.Rules.{rules}
 use Rattle.bits.specs.FoldSteps.{next}
 use Rattle.bits.proofs.fold.next.Goals as goal
 

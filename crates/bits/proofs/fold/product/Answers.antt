@@ -2,7 +2,6 @@
 use mathlib.Core.Path.{ap}
 use Prim.Native.Nat.{ℕ}
 use lib.Bits.{bit_xor}
-use borrow.Author.Rules.{rules}
 use Rattle.bits.specs.FoldSteps.{up, product}
 use Rattle.bits.proofs.fold.product.Goals as goal
 

@@ -1,6 +1,6 @@
 -- The three words, continued over what is left, are the whole. Assumes nothing.
 use mathlib.Core.Path.{◌≡◌, sym, ap, ap₂, ◌∙◌}
-use Prim.Native.Nat.{◌+◌, ◌*◌, ◌-◌, ◌%◌, ◌^◌, ◌≤◌, ◌<◌}
+use Prim.Native.Nat.{◌+◌, ◌*◌, ◌^◌, ◌≤◌, ◌<◌}
 use native.Mathlib.Omega.{arith}
 use lib.ListN.{length, drop}
 use lib.Bits.{bit_xor, xor_lt}
@@ -8,7 +8,7 @@ use borrow.Author.Rules.{rules}
 use Rattle.bits.specs.Crc.{crc_from}
 use Rattle.bits.specs.Field.{field}
 use Rattle.bits.proofs.CrcLaws.{from_end}
-use Rattle.bits.specs.FoldSteps.{rem, three, near, far}
+use Rattle.bits.specs.FoldSteps.{three, near, far}
 use Rattle.bits.proofs.StepLaws.{alone, turned}
 use Rattle.bits.proofs.fold.words.Goals as goal
 

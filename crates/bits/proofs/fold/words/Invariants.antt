@@ -1,15 +1,9 @@
 -- The three words, continued over what is left, are the whole. Assumes nothing.
-use mathlib.Core.Path.{◌≡◌, sym, ap, ap₂, ◌∙◌}
-use Prim.Native.Nat.{◌+◌, ◌*◌, ◌-◌, ◌%◌, ◌^◌, ◌≤◌, ◌<◌}
-use native.Mathlib.Omega.{arith}
+use mathlib.Core.Path.{◌≡◌}
+use Prim.Native.Nat.{◌-◌, ◌%◌, ◌^◌, ◌≤◌, ◌<◌}
 use lib.ListN.{length, drop}
-use lib.Bits.{bit_xor, xor_lt}
-use borrow.Author.Rules.{rules}
 use Rattle.bits.specs.Crc.{crc_from}
-use Rattle.bits.specs.Field.{field}
-use Rattle.bits.proofs.CrcLaws.{from_end}
-use Rattle.bits.specs.FoldSteps.{rem, three, near, far}
-use Rattle.bits.proofs.StepLaws.{alone, turned}
+use Rattle.bits.specs.FoldSteps.{rem, three}
 use Rattle.bits.proofs.fold.words.Given as goal
 
 abbrev pub invariant-loop-at : goal.invariant-loop-at

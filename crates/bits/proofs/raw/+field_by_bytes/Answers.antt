@@ -1,8 +1,7 @@
 -- The last byte's part of a field stands behind what the call of itself reads, whose field is shorter: the measure is the width. Assumes nothing.
 use mathlib.Core.Path.{◌≡◌, sym, ap, ◌∙◌}
-use Prim.Native.Nat.{ℕ, ◌+◌, ◌-◌, ◌<◌}
+use Prim.Native.Nat.{◌+◌, ◌-◌}
 use native.Mathlib.Omega.{arith}
-use borrow.Author.Rules.{rules}
 use Rattle.bits.specs.Field.{field}
 use Rattle.bits.proofs.FieldLaws.{field_below, chunk_step}
 use Rattle.bits.proofs.raw.+field_by_bytes.Goals as goal

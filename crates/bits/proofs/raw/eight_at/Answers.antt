@@ -1,5 +1,4 @@
 -- Eight bytes put together are a field of 64 bits. Assumes nothing.
-use borrow.Author.Rules.{rules}
 use Rattle.bits.proofs.FieldLaws.{eight_bytes}
 use Rattle.bits.proofs.raw.eight_at.Goals as goal
 

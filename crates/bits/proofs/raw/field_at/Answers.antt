@@ -6,7 +6,6 @@ use native.Mathlib.Omega.{arith}
 use lib.Pow.{shl_exact}
 use Rattle.bits.specs.Field.{field}
 use Rattle.bits.proofs.FieldLaws.{field_split, field_lt, field_below}
-use borrow.Author.Rules.{rules}
 use Rattle.bits.proofs.raw.field_at.Goals as goal
 
 -- the two looks put together, as 64-bit code shifts the first

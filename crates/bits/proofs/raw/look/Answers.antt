@@ -4,7 +4,6 @@ use Prim.Native.Nat.{ℕ, ◌+◌, ◌-◌, ◌*◌, ◌/◌, ◌%◌, ◌^◌}
 use native.Mathlib.Omega.{arith}
 use Rattle.bits.specs.Field.{field}
 use Rattle.bits.proofs.FieldLaws.{field_within}
-use borrow.Author.Rules.{rules}
 use Rattle.bits.proofs.raw.look.Goals as goal
 
 pub returns : goal.returns

@@ -1,7 +1,7 @@
 -- The loop has written the first k bits; each turn writes what one byte has of the field. Assumes nothing.
-use lib.ListN.{length-set, length, set, get_or}
+use lib.ListN.{length-set, set, get_or}
 use mathlib.Core.Path.{◌≡◌, refl, ap, ap₂, ◌∙◌}
-use Prim.Native.Nat.{ℕ, ◌+◌, ◌/◌, ◌%◌, ◌^◌, ◌≤◌, ◌<◌, ◌-◌}
+use Prim.Native.Nat.{ℕ, ◌+◌, ◌/◌, ◌%◌, ◌^◌, ◌<◌, ◌-◌}
 use native.Mathlib.Nat.{mod-eq_of_lt, mod-lt, div-one}
 use native.Mathlib.Omega.{arith}
 use lib.Pow.{pow_pos}

@@ -1,14 +1,8 @@
 -- The loop has written the first k bits; each turn writes what one byte has of the field. Assumes nothing.
-use lib.ListN.{length-set, length, set, get_or}
-use mathlib.Core.Path.{◌≡◌, refl, ap, ap₂, ◌∙◌}
-use Prim.Native.Nat.{ℕ, ◌+◌, ◌/◌, ◌%◌, ◌^◌, ◌≤◌, ◌<◌, ◌-◌}
-use native.Mathlib.Nat.{mod-eq_of_lt, mod-lt, div-one}
-use native.Mathlib.Omega.{arith}
-use lib.Pow.{pow_pos}
-use borrow.Author.Rules.{rules}
+use lib.ListN.{length}
+use mathlib.Core.Path.{◌≡◌}
+use Prim.Native.Nat.{◌/◌, ◌^◌, ◌≤◌, ◌-◌}
 use Rattle.bits.specs.Field.{put_field}
-use Rattle.bits.specs.Steps.{splice}
-use Rattle.bits.proofs.SpliceLaws.{splice_lt, put_chunk}
 use Rattle.bits.proofs.raw.put_by_bytes.Given as goal
 
 abbrev pub invariant-loop-k : goal.invariant-loop-k

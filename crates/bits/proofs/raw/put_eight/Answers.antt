@@ -2,7 +2,6 @@
 use native.Mathlib.Omega.{arith}
 use lib.ListN.{length-set}
 use Rattle.bits.proofs.EightLaws.{eight_written}
-use borrow.Author.Rules.{rules}
 use Rattle.bits.proofs.raw.put_eight.Goals as goal
 
 pub bounds-bytes-i-2 : goal.bounds-bytes-i-2

@@ -5,7 +5,6 @@ use Prim.Native.Nat.{ℕ, ◌+◌, ◌-◌}
 use native.Mathlib.Omega.{arith}
 use Rattle.bits.specs.Field.{put_field}
 use Rattle.bits.proofs.SpliceLaws.{put_split}
-use borrow.Author.Rules.{rules}
 use Rattle.bits.proofs.raw.put_field.Goals as goal
 
 pub returns : goal.returns

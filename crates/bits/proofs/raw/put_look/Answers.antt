@@ -5,7 +5,6 @@ use native.Mathlib.Omega.{arith}
 use Rattle.bits.specs.Field.{field, put_field}
 use Rattle.bits.specs.Steps.{splice}
 use Rattle.bits.proofs.EightLaws.{put_around}
-use borrow.Author.Rules.{rules}
 use Rattle.bits.proofs.raw.put_look.Goals as goal
 
 pub put_eight-requires : goal.put_eight-requires

@@ -1,7 +1,6 @@
 -- The bits that stood there are taken off, and those of v put in their place; nothing overflows on the way. Assumes nothing.
 use native.Mathlib.Omega.{arith}
 use Rattle.bits.proofs.SpliceLaws.{splice_code, splice_word}
-use borrow.Author.Rules.{rules}
 use Rattle.bits.proofs.raw.spliced.Goals as goal
 
 pub overflow_sub-result : goal.overflow_sub-result

@@ -4,7 +4,6 @@ use native.Mathlib.Omega.{arith}
 use lib.Signed.{mag}
 use mir.Syntax.{w64}
 use mir.ValLaws.{to_z-of_z}
-use borrow.Author.Rules.{rules}
 use Rattle.bits.proofs.SignedCode.{below_zero, not_below_zero, mag_small}
 use Rattle.bits.proofs.SignedLaws.{fits_signmag_neg, fits_signmag_pos}
 use Rattle.bits.proofs.signed.fits_signmag.Goals as goal

@@ -4,7 +4,6 @@ use lib.Dec.{ltb}
 use lib.Signed.{mag}
 use mir.Syntax.{w64}
 use mir.ValLaws.{to_z-of_z}
-use borrow.Author.Rules.{rules}
 use Rattle.bits.proofs.SignedLaws.{fits_twos_lem}
 use Rattle.bits.proofs.signed.fits_twos.Goals as goal
 

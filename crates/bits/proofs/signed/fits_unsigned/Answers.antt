@@ -4,7 +4,6 @@ use mathlib.Core.Path.{sym}
 use native.Mathlib.Omega.{arith}
 use borrow.Author.Tests.{lt-ltb, le-ltb}
 use Rattle.bits.proofs.SignedCode.{shr_zero, shr_some}
-use borrow.Author.Rules.{rules}
 use Rattle.bits.proofs.signed.fits_unsigned.Goals as goal
 
 pub returns-then-width-eq64 : goal.returns-then-width-eq64

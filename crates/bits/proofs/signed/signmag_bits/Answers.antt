@@ -5,7 +5,6 @@ use native.Mathlib.Omega.{arith}
 use lib.Signed.{mag}
 use mir.Syntax.{w64}
 use mir.ValLaws.{to_z-of_z}
-use borrow.Author.Rules.{rules}
 use borrow.Author.Tests.{ltb-true}
 use Rattle.bits.proofs.SignedCode.{below_zero, not_below_zero, mag_small}
 use Rattle.bits.proofs.SignedLaws.{signmag_bits_neg, fits_signmag_neg, bits_pos}

@@ -6,7 +6,6 @@ use mir.Syntax.{w64}
 use mir.ValLaws.{to_z_pos}
 use Rattle.bits.proofs.SignedCode.{minus_one_cast}
 use Rattle.bits.proofs.SignedLaws.{twos_low, twos_high}
-use borrow.Author.Rules.{rules}
 use Rattle.bits.proofs.signed.twos.Goals as goal
 
 pub returns-then-v-half : goal.returns-then-v-half

@@ -5,7 +5,6 @@ use native.Mathlib.Omega.{arith}
 use lib.Signed.{mag}
 use mir.Syntax.{w64}
 use mir.ValLaws.{to_z-of_z}
-use borrow.Author.Rules.{rules}
 use borrow.Author.Tests.{ltb-true}
 use Rattle.bits.proofs.SignedCode.{below_zero, not_below_zero}
 use Rattle.bits.proofs.SignedLaws.{fits_twos_lem, twos_bits_neg, bits_pos}

@@ -1,5 +1,4 @@
 -- The run from the first to the last differing place. Assumes nothing.
-use borrow.Author.Rules.{rules}
 use Rattle.damage.proofs.PlaceLaws.{unequal, equal}
 use Rattle.damage.proofs.compare.compare.Goals as goal
 

@@ -1,6 +1,5 @@
 -- The part that the comparison's answer names. Assumes nothing.
 use native.Mathlib.Omega.{arith}
-use borrow.Author.Rules.{rules}
 use Rattle.damage.proofs.CompareLaws.{refused_part, run_fits, accepted_part}
 use Rattle.damage.proofs.compare.differing.Goals as goal
 

@@ -1,8 +1,7 @@
 -- Before place i, all bytes are equal. Assumes nothing.
 use mathlib.Core.Path.{◌≡◌, sym, ap, ◌∙◌}
-use Prim.Native.Nat.{◌≤◌, ◌-◌, ◌+◌}
+use Prim.Native.Nat.{◌-◌, ◌+◌}
 use native.Mathlib.Omega.{arith}
-use borrow.Author.Rules.{rules}
 use Rattle.damage.specs.Compare.{first_from}
 use Rattle.damage.proofs.PlaceLaws.{first_here, first_after, first_end}
 use Rattle.damage.proofs.compare.first.Goals as goal

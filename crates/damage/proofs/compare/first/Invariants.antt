@@ -1,10 +1,7 @@
 -- Before place i, all bytes are equal. Assumes nothing.
-use mathlib.Core.Path.{◌≡◌, sym, ap, ◌∙◌}
-use Prim.Native.Nat.{◌≤◌, ◌-◌, ◌+◌}
-use native.Mathlib.Omega.{arith}
-use borrow.Author.Rules.{rules}
+use mathlib.Core.Path.{◌≡◌}
+use Prim.Native.Nat.{◌≤◌, ◌-◌}
 use Rattle.damage.specs.Compare.{first_from}
-use Rattle.damage.proofs.PlaceLaws.{first_here, first_after, first_end}
 use Rattle.damage.proofs.compare.first.Given as goal
 
 abbrev pub invariant-loop-i : goal.invariant-loop-i

@@ -1,10 +1,6 @@
 -- From place e on, all bytes are equal. Assumes nothing.
-use mathlib.Core.Path.{◌≡◌, refl, sym, ◌∙◌}
-use Prim.Native.Nat.{◌≤◌}
+use mathlib.Core.Path.{refl, sym, ◌∙◌}
 use native.Mathlib.Omega.{arith}
-use lib.ListN.{length}
-use borrow.Author.Rules.{rules}
-use Rattle.damage.specs.Compare.{past_last}
 use Rattle.damage.proofs.PlaceLaws.{last_here, last_before, last_none}
 use Rattle.damage.proofs.compare.past_last.Goals as goal
 

@@ -1,11 +1,8 @@
 -- From place e on, all bytes are equal. Assumes nothing.
-use mathlib.Core.Path.{◌≡◌, refl, sym, ◌∙◌}
+use mathlib.Core.Path.{◌≡◌}
 use Prim.Native.Nat.{◌≤◌}
-use native.Mathlib.Omega.{arith}
 use lib.ListN.{length}
-use borrow.Author.Rules.{rules}
 use Rattle.damage.specs.Compare.{past_last}
-use Rattle.damage.proofs.PlaceLaws.{last_here, last_before, last_none}
 use Rattle.damage.proofs.compare.past_last.Given as goal
 
 abbrev pub invariant-loop-end : goal.invariant-loop-end

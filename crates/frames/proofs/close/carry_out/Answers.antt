@@ -9,10 +9,9 @@ use lib.Seq.{take-nil}
 use Rattle.bits.specs.Onto.{onto}
 use Rattle.frames.specs.Answers.{known}
 use Rattle.frames.specs.Steps.{moved, CanHold}
-use Rattle.frames.specs.declared.scan.Searched.TheVariants.{More, Frame}
+use Rattle.frames.specs.declared.scan.Searched.TheVariants.{Frame}
 use Rattle.frames.proofs.SeamLaws.{none_taken, slide_alone, gather_alone}
 use Rattle.frames.proofs.MovedLaws.{moved_more, moved_frame_lem}
-use borrow.Author.Rules.{rules}
 use Rattle.frames.proofs.close.carry_out.Goals as goal
 
 pub overflow_sub-count : goal.overflow_sub-count

@@ -1,10 +1,7 @@
 -- Each refusal is a case of the call; past them, the moves by what the search finds are the closing call. Assumes nothing.
 -- past the refusals the call is accepted
-use mathlib.Core.List.{List, []}
-use Prim.Native.Nat.{ℕ}
+use mathlib.Core.List.{[]}
 use native.Mathlib.Omega.{arith}
-use borrow.Author.Rules.{rules}
-use Rattle.frames.specs.Call.{Scanner}
 use Rattle.frames.specs.Answers.{known}
 use Rattle.frames.proofs.CallLaws.{Fits, wrong_area, wrong_count, over_taken, over_limit, wrong_mode, small_output}
 use Rattle.frames.proofs.EndLaws.{refuses, end_can_hold, end_closes}

@@ -1,6 +1,5 @@
 -- Each arm tells what its answer tells; More is told as Done. Assumes nothing.
 use mathlib.Core.Path.{sym, ap, ◌∙◌}
-use borrow.Author.Rules.{rules}
 use Rattle.bits.specs.Told.{Accepted}
 use Rattle.frames.specs.Close.{Done, closed_by}
 use Rattle.frames.specs.Answers.{told_fed}

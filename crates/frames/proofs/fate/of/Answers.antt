@@ -1,7 +1,6 @@
 -- Each refusal is a case of the definition; past them the walk tells. Assumes nothing.
 use mathlib.Core.Path.{◌∙◌}
 use native.Mathlib.Omega.{arith}
-use borrow.Author.Rules.{rules}
 use Rattle.frames.proofs.FateLaws.{too_long, past_end, has_fate}
 use Rattle.frames.proofs.fate.of.Goals as goal
 

@@ -1,5 +1,4 @@
 -- A byte other than D3 tells itself, a D3 that is skipped by its check. Assumes nothing.
-use borrow.Author.Rules.{rules}
 use Rattle.frames.proofs.FateLaws.{checked_all, tells_not_d3, tells_sums, no_other}
 use Rattle.frames.proofs.fate.skipped.Goals as goal
 

@@ -1,15 +1,12 @@
 -- From frame to frame the fate of the byte stays, until it is reached or passed. Assumes nothing.
-use mathlib.Core.Path.{◌≡◌, refl, sym, ap, ◌∙◌}
-use Prim.Native.Nat.{◌-◌, ◌≤◌}
+use mathlib.Core.Path.{refl, sym, ap, ◌∙◌}
 use native.Mathlib.Omega.{arith}
-use lib.ListN.{length}
-use borrow.Author.Rules.{rules}
 use Rattle.bits.specs.Told.{Accepted}
 use Rattle.frames.specs.Rtcm.{rtcm}
 use Rattle.frames.specs.Answers.{told_next}
 use Rattle.frames.proofs.RtcmLaws.{rtcm_lawful}
 use Rattle.frames.proofs.WalkLaws.{stops, finds}
-use Rattle.frames.proofs.FateLaws.{fate_from, held_there, skipped_held, frame_there, behind_frame, skipped_before}
+use Rattle.frames.proofs.FateLaws.{held_there, skipped_held, frame_there, behind_frame, skipped_before}
 use Rattle.frames.proofs.fate.walk.Goals as goal
 
 pub loop-start-init : goal.loop-start-init

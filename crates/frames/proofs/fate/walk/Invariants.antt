@@ -1,15 +1,8 @@
 -- From frame to frame the fate of the byte stays, until it is reached or passed. Assumes nothing.
-use mathlib.Core.Path.{◌≡◌, refl, sym, ap, ◌∙◌}
+use mathlib.Core.Path.{◌≡◌}
 use Prim.Native.Nat.{◌-◌, ◌≤◌}
-use native.Mathlib.Omega.{arith}
 use lib.ListN.{length}
-use borrow.Author.Rules.{rules}
-use Rattle.bits.specs.Told.{Accepted}
-use Rattle.frames.specs.Rtcm.{rtcm}
-use Rattle.frames.specs.Answers.{told_next}
-use Rattle.frames.proofs.RtcmLaws.{rtcm_lawful}
-use Rattle.frames.proofs.WalkLaws.{stops, finds}
-use Rattle.frames.proofs.FateLaws.{fate_from, held_there, skipped_held, frame_there, behind_frame, skipped_before}
+use Rattle.frames.proofs.FateLaws.{fate_from}
 use Rattle.frames.proofs.fate.walk.Given as goal
 
 abbrev pub invariant-loop-start : goal.invariant-loop-start

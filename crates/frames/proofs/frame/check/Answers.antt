@@ -1,6 +1,5 @@
 -- Each return is a case of the check's definition. Assumes nothing.
 use native.Mathlib.Omega.{arith}
-use borrow.Author.Rules.{rules}
 use Rattle.frames.proofs.FrameLaws.{too_few, no_start, length_at, cut_at, differ_at, agree_at}
 use Rattle.frames.proofs.frame.check.Goals as goal
 

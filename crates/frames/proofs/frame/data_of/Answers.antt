@@ -1,6 +1,5 @@
 -- The bytes between the first three and the last three. Assumes nothing.
 use native.Mathlib.Omega.{arith}
-use borrow.Author.Rules.{rules}
 use Rattle.frames.proofs.PartLaws.{inside_few, inside_is}
 use Rattle.frames.proofs.frame.data_of.Goals as goal
 

@@ -2,7 +2,6 @@
 use mathlib.Core.Path.{sym}
 use native.Mathlib.Nat.{add-zero}
 use native.Mathlib.Omega.{arith}
-use borrow.Author.Rules.{rules}
 use Rattle.frames.proofs.PartLaws.{refused_part, frame_fits, accepted_part}
 use Rattle.frames.proofs.frame.frame_part.Goals as goal
 

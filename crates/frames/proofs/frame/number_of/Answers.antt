@@ -1,6 +1,5 @@
 -- The first two bytes hold the number. Assumes nothing.
 use native.Mathlib.Omega.{arith}
-use borrow.Author.Rules.{rules}
 use Rattle.frames.proofs.FrameLaws.{number_absent, number_is}
 use Rattle.frames.proofs.frame.number_of.Goals as goal
 

@@ -5,7 +5,6 @@ use native.Mathlib.Omega.{arith}
 use lib.ListN.{length, take, drop}
 use Rattle.bits.specs.Onto.{over}
 use Rattle.frames.proofs.SeamLaws.{over_again}
-use borrow.Author.Rules.{rules}
 use Rattle.frames.proofs.frame.put_at.Goals as goal
 
 pub returns : goal.returns

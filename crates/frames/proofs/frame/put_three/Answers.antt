@@ -4,7 +4,6 @@ use Prim.Native.Nat.{ℕ, suc, ◌+◌, ◌/◌, ◌%◌, ◌^◌}
 use native.Mathlib.Omega.{arith}
 use lib.ListN.{set, length-set}
 use lib.Seq.{sets-eq}
-use borrow.Author.Rules.{rules}
 use Rattle.bits.specs.Crc.{three_bytes}
 use Rattle.frames.proofs.frame.put_three.Goals as goal
 

@@ -3,7 +3,6 @@ use mathlib.Core.Path.{ap, ◌∙◌}
 use Prim.Native.Nat.{◌+◌}
 use native.Mathlib.Omega.{arith}
 use lib.ListN.{length}
-use borrow.Author.Rules.{rules}
 use Rattle.bits.specs.Told.{Accepted}
 use Rattle.bits.specs.Outcome.{outcome}
 use Rattle.frames.proofs.WriteLaws.{too_long, no_room, is_framed, sum_below, parts_framed}

@@ -1,7 +1,6 @@
 -- The check of the bytes from there on, which are the piece's. Assumes nothing.
 use mathlib.Core.Path.{refl}
 use native.Mathlib.Omega.{arith}
-use borrow.Author.Rules.{rules}
 use Rattle.frames.proofs.ListLaws.{stands_here}
 use Rattle.frames.proofs.list.frame_here.Goals as goal
 

@@ -1,6 +1,5 @@
 -- The listing of the first bytes, with as many places as the shorter list has. Assumes nothing.
 use native.Mathlib.Omega.{arith}
-use borrow.Author.Rules.{rules}
 use Rattle.frames.proofs.ListLaws.{not_more, lists_first}
 use Rattle.frames.proofs.list.frames_across.Goals as goal
 

@@ -1,18 +1,9 @@
 -- The loop has come to place i with k frames listed, no earlier than where it began. Assumes nothing.
 use mathlib.Core.Path.{refl}
-use mathlib.Core.List.{◌++◌}
-use Prim.Native.Nat.{◌-◌, ◌≤◌}
 use native.Mathlib.Omega.{arith}
-use lib.ListN.{length, drop, length-append}
-use borrow.Author.Rules.{rules}
-use Rattle.frames.specs.Scan.{scan}
-use Rattle.frames.specs.Framing.{decide}
+use lib.ListN.{length-append}
 use Rattle.frames.specs.Modes.{framing_of}
-use Rattle.frames.specs.Steps.{starts_in}
-use Rattle.frames.specs.ListSteps.{list_on}
-use Rattle.frames.proofs.ModeLaws.{lawful}
-use Rattle.frames.proofs.StartLaws.{mode_starts}
-use Rattle.frames.proofs.ListLaws.{Came, by_numbers, reached_so, stops_at, good_few, good_inside, lists}
+use Rattle.frames.proofs.ListLaws.{by_numbers, reached_so, stops_at, good_few, good_inside, lists}
 use Rattle.frames.proofs.list.list_run.Goals as goal
 
 pub loop-k-init : goal.loop-k-init

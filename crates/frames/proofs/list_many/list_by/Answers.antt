@@ -1,19 +1,9 @@
 -- The loop has come to place i with k frames listed, and windows that begin at or before place i are at hand. Assumes nothing.
-use mathlib.Core.Path.{◌≡◌, refl, sym, ◌∙◌}
-use mathlib.Core.List.{◌++◌}
-use Prim.Native.Nat.{◌+◌, ◌-◌, ◌≤◌}
+use mathlib.Core.Path.{refl, sym, ◌∙◌}
 use native.Mathlib.Omega.{arith}
-use lib.ListN.{length, drop, length-append}
-use borrow.Author.Rules.{rules}
-use Rattle.frames.specs.Scan.{scan}
-use Rattle.frames.specs.Framing.{decide}
-use Rattle.frames.specs.Modes.{framing_of}
-use Rattle.frames.specs.Steps.{starts_in, Ready}
-use Rattle.frames.specs.ListSteps.{list_on}
-use Rattle.frames.proofs.ModeLaws.{lawful}
-use Rattle.frames.proofs.StartLaws.{mode_starts}
+use lib.ListN.{length-append}
 use Rattle.frames.proofs.RunLaws.{begins_ready}
-use Rattle.frames.proofs.ListLaws.{Came, tells, at_start, ends_full, ends_all, ends_short, skips_on, passes, good_few, good_inside, good_some, lists}
+use Rattle.frames.proofs.ListLaws.{tells, at_start, ends_full, ends_all, ends_short, skips_on, passes, good_few, good_inside, good_some, lists}
 use Rattle.frames.proofs.list_many.list_by.Goals as goal
 
 pub overflow_add-all : goal.overflow_add-all

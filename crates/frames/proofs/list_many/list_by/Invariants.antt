@@ -1,10 +1,8 @@
 -- The loop has come to place i with k frames listed, and windows that begin at or before place i are at hand. Assumes nothing.
-use mathlib.Core.Path.{◌≡◌, refl, sym, ◌∙◌}
+use mathlib.Core.Path.{◌≡◌}
 use mathlib.Core.List.{◌++◌}
 use Prim.Native.Nat.{◌+◌, ◌-◌, ◌≤◌}
-use native.Mathlib.Omega.{arith}
-use lib.ListN.{length, drop, length-append}
-use borrow.Author.Rules.{rules}
+use lib.ListN.{length, drop}
 use Rattle.frames.specs.Scan.{scan}
 use Rattle.frames.specs.Framing.{decide}
 use Rattle.frames.specs.Modes.{framing_of}
@@ -12,8 +10,7 @@ use Rattle.frames.specs.Steps.{starts_in, Ready}
 use Rattle.frames.specs.ListSteps.{list_on}
 use Rattle.frames.proofs.ModeLaws.{lawful}
 use Rattle.frames.proofs.StartLaws.{mode_starts}
-use Rattle.frames.proofs.RunLaws.{begins_ready}
-use Rattle.frames.proofs.ListLaws.{Came, tells, at_start, ends_full, ends_all, ends_short, skips_on, passes, good_few, good_inside, good_some, lists}
+use Rattle.frames.proofs.ListLaws.{Came}
 use Rattle.frames.proofs.list_many.list_by.Given as goal
 
 abbrev pub invariant-loop-k : goal.invariant-loop-k

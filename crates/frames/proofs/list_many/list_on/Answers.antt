@@ -7,7 +7,6 @@ use Rattle.frames.specs.Scan.{scan}
 use Rattle.frames.specs.Framing.{decide}
 use Rattle.frames.specs.Modes.{framing_of}
 use Rattle.frames.specs.ListSteps.{list_on}
-use borrow.Author.Rules.{rules}
 use Rattle.frames.proofs.list_many.list_on.Goals as goal
 
 pub returns-then-mode-eq0 : goal.returns-then-mode-eq0

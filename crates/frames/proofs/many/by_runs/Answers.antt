@@ -1,6 +1,5 @@
 -- The window reaches far enough, and decides. Assumes nothing.
 use mathlib.Core.Path.{refl}
-use borrow.Author.Rules.{rules}
 use Rattle.frames.proofs.many.by_runs.Goals as goal
 
 pub cover_runs-window-requires : goal.cover_runs-window-requires

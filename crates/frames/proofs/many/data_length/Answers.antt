@@ -5,7 +5,6 @@ use native.Mathlib.Omega.{arith}
 use Rattle.bits.specs.Field.{field}
 use Rattle.bits.proofs.ThreeLaws.{three_field}
 use Rattle.frames.proofs.CandidateLaws.{length_here}
-use borrow.Author.Rules.{rules}
 use Rattle.frames.proofs.many.data_length.Goals as goal
 
 pub returns : goal.returns

@@ -1,6 +1,5 @@
 -- A candidate that is not valid is told by its bytes. Assumes nothing.
 use mathlib.Core.Path.{refl}
-use borrow.Author.Rules.{rules}
 use Rattle.frames.proofs.many.failed_by.Goals as goal
 
 pub returns-in-Incomplete : goal.returns-in-Incomplete

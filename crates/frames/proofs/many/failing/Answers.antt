@@ -5,7 +5,6 @@ use lib.ListN.{get_or}
 use Rattle.frames.proofs.SeamLaws.{at_right}
 use Rattle.frames.proofs.CandidateLaws.{first_is}
 use Rattle.frames.proofs.UbxCandidateLaws.{at_b5, b5_both, other_d3, at_other}
-use borrow.Author.Rules.{rules}
 use Rattle.frames.proofs.many.failing.Goals as goal
 
 pub ubx_failing-requires : goal.ubx_failing-requires

@@ -3,7 +3,6 @@ use mathlib.Core.Path.{refl, sym, ap, ◌∙◌, subst}
 use Prim.Native.Nat.{ℕ, ◌-◌}
 use lib.ListN.{length}
 use native.Mathlib.Omega.{arith}
-use borrow.Author.Rules.{rules}
 use Rattle.frames.specs.Framing.{decide}
 use Rattle.frames.specs.Feed.{feed}
 use Rattle.frames.specs.Modes.{framing_of}

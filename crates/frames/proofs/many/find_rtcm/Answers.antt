@@ -1,16 +1,10 @@
 -- The loop has come to place i, the bytes up to place end are taken, and a window that begins at or before place i is at hand. Assumes nothing.
-use mathlib.Core.Path.{◌≡◌, refl, sym, ap, subst, ◌∙◌}
-use mathlib.Core.List.{◌++◌}
-use Prim.Native.Nat.{◌+◌, ◌-◌, ◌≤◌}
+use mathlib.Core.Path.{refl, sym, ap, subst, ◌∙◌}
+use Prim.Native.Nat.{◌-◌}
 use native.Mathlib.Omega.{arith}
 use lib.ListN.{length, length-append}
 use borrow.Author.Tests.{eqb-true}
-use borrow.Author.Rules.{rules}
 use Rattle.frames.specs.declared.scan.Searched.TheVariants.{Frame}
-use Rattle.frames.specs.Modes.{framing_of}
-use Rattle.frames.specs.Steps.{starts_in, Tails}
-use Rattle.frames.proofs.ModeLaws.{lawful}
-use Rattle.frames.proofs.StartLaws.{mode_starts}
 use Rattle.frames.proofs.FindLaws.{less_again, Came, all_skipped, no_start, waits, bad_fits, good_fits, passed, finds}
 use Rattle.frames.proofs.many.find_rtcm.Goals as goal
 

@@ -2,7 +2,6 @@
 use mathlib.Core.Path.{refl, sym, ◌∙◌}
 use mathlib.Core.List.{◌++◌}
 use lib.ListN.{get_or}
-use borrow.Author.Rules.{rules}
 use Rattle.frames.proofs.CandidateLaws.{first_is}
 use Rattle.frames.proofs.UbxCandidateLaws.{at_b5, b5_both, other_d3, at_other}
 use Rattle.frames.proofs.RunLaws.{le_by, tails_anew, runs_anew}

@@ -6,7 +6,6 @@ use native.Mathlib.Omega.{arith}
 use lib.ListN.{take, length-append}
 use Rattle.window.specs.Tails.{stored}
 use Rattle.frames.proofs.ManyLaws.{opened, area_length}
-use borrow.Author.Rules.{rules}
 use Rattle.frames.proofs.many.open.Goals as goal
 
 pub returns : goal.returns

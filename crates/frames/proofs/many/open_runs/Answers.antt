@@ -4,7 +4,6 @@ use mathlib.Core.List.{◌++◌}
 use Prim.Native.Nat.{ℕ, ◌+◌}
 use native.Mathlib.Omega.{arith}
 use lib.ListN.{length-append}
-use borrow.Author.Rules.{rules}
 use Rattle.frames.proofs.RunLaws.{opened_runs}
 use Rattle.frames.proofs.many.open_runs.Goals as goal
 

@@ -1,6 +1,6 @@
 -- The loop has come to place i, and the bytes up to place end are taken. Assumes nothing.
 use mathlib.Core.Path.{◌≡◌, refl, sym, ap, subst, ◌∙◌}
-use Prim.Native.Nat.{◌+◌, ◌-◌, max}
+use Prim.Native.Nat.{◌+◌, max}
 use native.Mathlib.Omega.{arith}
 use lib.ListN.{length, length-append}
 use Rattle.frames.specs.Modes.{framing_of}
@@ -12,7 +12,6 @@ use Rattle.frames.proofs.ModeLaws.{lawful}
 use Rattle.frames.proofs.StartLaws.{mode_starts}
 use Rattle.frames.proofs.ManyLaws.{both_bytes}
 use Rattle.frames.proofs.PassLaws.{pass_none, pass_more, rtcm_fails}
-use borrow.Author.Rules.{rules}
 use Rattle.frames.proofs.many.pass.Goals as goal
 
 pub overflow_sub-last : goal.overflow_sub-last

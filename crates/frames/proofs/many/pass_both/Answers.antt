@@ -1,6 +1,6 @@
 -- The loop has come to place i, and every byte before it is skipped. Assumes nothing.
 use mathlib.Core.Path.{sym, subst}
-use Prim.Native.Nat.{◌+◌, ◌-◌}
+use Prim.Native.Nat.{◌+◌}
 use native.Mathlib.Omega.{arith}
 use lib.ListN.{length, length-append}
 use Rattle.frames.specs.Modes.{framing_of}
@@ -9,7 +9,6 @@ use Rattle.frames.proofs.CandidateLaws.{start_right}
 use Rattle.frames.proofs.ModeLaws.{lawful}
 use Rattle.frames.proofs.StartLaws.{in_both, mode_starts}
 use Rattle.frames.proofs.PassLaws.{pass_none, fail_fits, pass_more}
-use borrow.Author.Rules.{rules}
 use Rattle.frames.proofs.many.pass_both.Goals as goal
 
 pub loop-i-init : goal.loop-i-init

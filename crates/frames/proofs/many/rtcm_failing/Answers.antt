@@ -5,7 +5,6 @@ use Prim.Native.Nat.{◌-◌}
 use lib.ListN.{length, length-append}
 use Rattle.frames.proofs.ManyLaws.{both_bytes}
 use Rattle.frames.proofs.PassLaws.{rtcm_fails}
-use borrow.Author.Rules.{rules}
 use Rattle.frames.proofs.many.rtcm_failing.Goals as goal
 
 pub returns-then-stop-least : goal.returns-then-stop-least

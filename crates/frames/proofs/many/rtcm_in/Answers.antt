@@ -4,7 +4,6 @@ use native.Mathlib.Omega.{arith}
 use lib.ListN.{length-append}
 use Rattle.frames.proofs.CandidateLaws.{length_here, candidate_few, candidate_cut}
 use Rattle.frames.proofs.ManyLaws.{both_bytes, window_good, window_bad}
-use borrow.Author.Rules.{rules}
 use Rattle.frames.proofs.many.rtcm_in.Goals as goal
 
 pub returns-then-left-lt6 : goal.returns-then-left-lt6

@@ -5,7 +5,6 @@ use native.Mathlib.Omega.{arith}
 use lib.ListN.{length-append}
 use Rattle.frames.proofs.UbxCandidateLaws.{payload_here, ubx_other, ubx_long}
 use Rattle.frames.proofs.PassLaws.{piece_at}
-use borrow.Author.Rules.{rules}
 use Rattle.frames.proofs.many.ubx_failing.Goals as goal
 
 pub returns-then-stop-least : goal.returns-then-stop-least

@@ -3,7 +3,6 @@ use mathlib.Core.Path.{subst}
 use native.Mathlib.Omega.{arith}
 use mathlib.Core.List.{◌++◌}
 use lib.ListN.{length-append}
-use borrow.Author.Rules.{rules}
 use Rattle.frames.specs.Steps.{Claim}
 use Rattle.frames.proofs.many.ubx_in.Goals as goal
 

@@ -1,6 +1,5 @@
 -- The place lies before the seam of held bytes and piece, or behind it. Assumes nothing.
 use mathlib.Core.Path.{◌∙◌}
-use borrow.Author.Rules.{rules}
 use Rattle.frames.proofs.SeamLaws.{at_left, at_right}
 use Rattle.frames.proofs.scan.byte_at.Goals as goal
 

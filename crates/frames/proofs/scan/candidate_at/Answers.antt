@@ -4,7 +4,6 @@ use mathlib.Core.List.{◌++◌}
 use native.Mathlib.Omega.{arith}
 use Rattle.frames.proofs.CandidateLaws.{first_is}
 use Rattle.frames.proofs.UbxCandidateLaws.{only_rtcm, only_d3, at_b5, at_d3_lem, else_d3}
-use borrow.Author.Rules.{rules}
 use Rattle.frames.proofs.scan.candidate_at.Goals as goal
 
 pub rtcm_at-requires : goal.rtcm_at-requires

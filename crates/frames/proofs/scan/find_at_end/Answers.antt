@@ -1,15 +1,13 @@
 -- The loop has skipped the bytes up to place i. Assumes nothing.
 use mathlib.Core.Path.{sym, ap, ◌∙◌}
 use mathlib.Core.List.{append-nil}
-use Prim.Native.Nat.{◌-◌}
 use native.Mathlib.Omega.{arith}
-use lib.ListN.{length, get_or}
-use borrow.Author.Rules.{rules}
+use lib.ListN.{get_or}
 use Rattle.frames.specs.Modes.{framing_of}
 use Rattle.frames.specs.Steps.{starts_in}
 use Rattle.frames.proofs.ModeLaws.{lawful}
 use Rattle.frames.proofs.StartLaws.{mode_starts}
-use Rattle.frames.proofs.EndLaws.{Past, past_none, past_all, past_start, past_cut, past_bad, past_good}
+use Rattle.frames.proofs.EndLaws.{past_none, past_all, past_start, past_cut, past_bad, past_good}
 use Rattle.frames.proofs.scan.find_at_end.Goals as goal
 
 pub loop-i-init : goal.loop-i-init

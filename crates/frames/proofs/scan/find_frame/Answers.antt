@@ -10,7 +10,6 @@ use Rattle.frames.proofs.StartLaws.{mode_starts}
 use Rattle.frames.specs.Steps.{starts_in}
 use Rattle.frames.proofs.UbxCandidateLaws.{only_rtcm}
 use Rattle.frames.proofs.FindLaws.{front_waits}
-use borrow.Author.Rules.{rules}
 use Rattle.frames.proofs.scan.find_frame.Goals as goal
 
 pub returns-then-still_waits : goal.returns-then-still_waits

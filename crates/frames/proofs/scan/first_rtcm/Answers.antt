@@ -1,16 +1,11 @@
 -- The loop has come to place i, the bytes up to place end are taken, and no more candidates failed than bytes were skipped. Assumes nothing.
 use mathlib.Core.Path.{refl, sym, ap, subst, ◌∙◌}
-use Prim.Native.Nat.{◌+◌, ◌-◌, ◌≤◌}
+use Prim.Native.Nat.{◌-◌}
 use native.Mathlib.Omega.{arith}
 use lib.ListN.{length, length-append}
 use borrow.Author.Tests.{eqb-true}
-use borrow.Author.Rules.{rules}
 use Rattle.frames.specs.declared.scan.Searched.TheVariants.{Frame}
-use Rattle.frames.specs.Modes.{framing_of}
-use Rattle.frames.specs.Steps.{starts_in}
-use Rattle.frames.proofs.ModeLaws.{lawful}
 use Rattle.frames.proofs.UbxCandidateLaws.{only_rtcm}
-use Rattle.frames.proofs.StartLaws.{mode_starts}
 use Rattle.frames.proofs.FindLaws.{nearer, one_more_failed, Came, came_first, all_skipped, no_start, waits, bad_fits, good_fits, passed, finds}
 use Rattle.frames.proofs.scan.first_rtcm.Goals as goal
 

@@ -1,7 +1,6 @@
 -- The sixteen tests, one after the other. Assumes nothing.
 use mathlib.Core.Path.{refl}
 use Rattle.frames.specs.Steps.{among}
-use borrow.Author.Rules.{rules}
 use Rattle.frames.proofs.scan.has.Goals as goal
 
 pub returns : goal.returns

@@ -1,13 +1,8 @@
 -- The loop has passed no D3. Assumes nothing.
-use mathlib.Core.Path.{◌≡◌}
-use mathlib.Core.Bool.{false}
-use Prim.Native.Nat.{ℕ, ◌-◌, ◌≤◌, ◌<◌}
 use native.Mathlib.Omega.{arith}
-use lib.ListN.{length, get_or}
 use borrow.Author.Count.{below_more}
 use borrow.Author.Tests.{eq-eqb, ne_eqb}
 use borrow.Author.Rules.{rules}
-use Rattle.frames.specs.Steps.{starts_rtcm}
 use Rattle.frames.proofs.scan.near_d3.Goals as goal
 
 pub loop-i-init : goal.loop-i-init

@@ -1,12 +1,7 @@
 -- The loop has passed neither D3 nor B5. Assumes nothing.
-use mathlib.Core.Path.{◌≡◌}
-use mathlib.Core.Bool.{false}
-use Prim.Native.Nat.{ℕ, ◌-◌, ◌≤◌, ◌<◌}
 use native.Mathlib.Omega.{arith}
-use lib.ListN.{length, get_or}
 use borrow.Author.Count.{below_more}
 use borrow.Author.Rules.{rules}
-use Rattle.frames.specs.Steps.{starts_either}
 use Rattle.frames.proofs.StartLaws.{b5_starts, d3_starts, none_starts}
 use Rattle.frames.proofs.scan.near_either.Goals as goal
 

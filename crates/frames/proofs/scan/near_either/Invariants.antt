@@ -2,12 +2,8 @@
 use mathlib.Core.Path.{◌≡◌}
 use mathlib.Core.Bool.{false}
 use Prim.Native.Nat.{ℕ, ◌-◌, ◌≤◌, ◌<◌}
-use native.Mathlib.Omega.{arith}
 use lib.ListN.{length, get_or}
-use borrow.Author.Count.{below_more}
-use borrow.Author.Rules.{rules}
 use Rattle.frames.specs.Steps.{starts_either}
-use Rattle.frames.proofs.StartLaws.{b5_starts, d3_starts, none_starts}
 use Rattle.frames.proofs.scan.near_either.Given as goal
 
 abbrev pub invariant-loop-i : goal.invariant-loop-i

@@ -1,11 +1,10 @@
 -- The loop has passed no start byte. Assumes nothing.
 use mathlib.Core.Path.{◌≡◌, sym, ◌∙◌}
 use mathlib.Core.Bool.{false}
-use Prim.Native.Nat.{ℕ, ◌-◌, ◌≤◌, ◌<◌}
+use Prim.Native.Nat.{◌≤◌}
 use native.Mathlib.Omega.{arith}
-use lib.ListN.{length, get_or}
+use lib.ListN.{get_or}
 use borrow.Author.Tests.{eq-eqb}
-use borrow.Author.Rules.{rules}
 use Rattle.frames.specs.Steps.{starts_rtcm}
 use Rattle.frames.proofs.AmongLaws.{none_of, below_run, first_from_lem}
 use Rattle.frames.proofs.scan.next_d3.Goals as goal

@@ -1,12 +1,9 @@
 -- The loop has passed no start byte. Assumes nothing.
-use mathlib.Core.Path.{◌≡◌, sym, ◌∙◌}
+use mathlib.Core.Path.{◌≡◌}
 use mathlib.Core.Bool.{false}
 use Prim.Native.Nat.{ℕ, ◌-◌, ◌≤◌, ◌<◌}
-use native.Mathlib.Omega.{arith}
 use lib.ListN.{length, get_or}
-use borrow.Author.Rules.{rules}
 use Rattle.frames.specs.Steps.{starts_either}
-use Rattle.frames.proofs.AmongLaws.{none_of, neither, below_run, first_from_lem}
 use Rattle.frames.proofs.scan.next_either.Given as goal
 
 abbrev pub invariant-loop-i : goal.invariant-loop-i

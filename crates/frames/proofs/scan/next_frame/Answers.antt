@@ -1,6 +1,5 @@
 -- What the search finds behind the place is the next frame. Assumes nothing.
 use native.Mathlib.Omega.{arith}
-use borrow.Author.Rules.{rules}
 use Rattle.frames.specs.Rtcm.{rtcm}
 use Rattle.frames.proofs.ModeLaws.{lawful}
 use Rattle.frames.proofs.WalkLaws.{past_end, held_on, held_reaches, frame_on, frame_reaches}

@@ -1,5 +1,4 @@
 -- The mode says which bytes are searched for. Assumes nothing.
-use borrow.Author.Rules.{rules}
 use Rattle.frames.proofs.StartLaws.{in_rtcm, in_both}
 use Rattle.frames.proofs.scan.next_in.Goals as goal
 

@@ -1,6 +1,5 @@
 -- The first start byte stands in the held bytes, or else in the piece. Assumes nothing.
 use native.Mathlib.Omega.{arith}
-use borrow.Author.Rules.{rules}
 use Rattle.frames.specs.Steps.{starts_in}
 use Rattle.frames.proofs.CandidateLaws.{start_right, start_left, start_both}
 use Rattle.frames.proofs.scan.next_start.Goals as goal

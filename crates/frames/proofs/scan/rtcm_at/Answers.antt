@@ -1,7 +1,6 @@
 -- Each return is a case of what is decided at a D3. Assumes nothing.
 use native.Mathlib.Omega.{arith}
 use lib.ListN.{length-append}
-use borrow.Author.Rules.{rules}
 use Rattle.frames.proofs.CandidateLaws.{length_here, candidate_few, candidate_cut, candidate_good, candidate_bad}
 use Rattle.frames.proofs.scan.rtcm_at.Goals as goal
 

@@ -1,6 +1,5 @@
 -- The length that the first three bytes claim says that the piece ends too soon. Assumes nothing.
 use native.Mathlib.Omega.{arith}
-use borrow.Author.Rules.{rules}
 use borrow.Author.Tests.{ltb-true}
 use Rattle.frames.proofs.CandidateLaws.{never, front_cut}
 use Rattle.frames.proofs.scan.still_waits.Goals as goal

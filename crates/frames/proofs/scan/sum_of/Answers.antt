@@ -3,7 +3,6 @@ use mathlib.Core.Path.{◌∙◌, ap}
 use native.Mathlib.Omega.{arith}
 use Rattle.bits.specs.Crc.{crc}
 use Rattle.frames.proofs.SeamLaws.{part_right, sum_across}
-use borrow.Author.Rules.{rules}
 use Rattle.frames.proofs.scan.sum_of.Goals as goal
 
 pub returns-then-h-i : goal.returns-then-h-i

@@ -1,6 +1,5 @@
 -- Three bytes are a field of 24 bits. Assumes nothing.
 use native.Mathlib.Omega.{arith}
-use borrow.Author.Rules.{rules}
 use Rattle.frames.proofs.CandidateLaws.{three_here}
 use Rattle.frames.proofs.scan.three_at.Goals as goal
 

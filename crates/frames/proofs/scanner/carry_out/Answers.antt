@@ -1,14 +1,11 @@
 -- What the search found says what to move: the moves make the outcome. Assumes nothing.
 -- the places of a frame that was found
 use mathlib.Core.Path.{refl, sym, ap, subst, ◌∙◌}
-use Prim.Native.Nat.{ℕ}
 use native.Mathlib.Omega.{arith}
 use lib.ListN.{length}
 use Rattle.frames.specs.Answers.{known}
 use Rattle.frames.specs.Steps.{moved, CanHold}
-use Rattle.frames.specs.declared.scan.Searched.TheVariants.{Frame}
 use Rattle.frames.proofs.MovedLaws.{moved_more, moved_frame_lem}
-use borrow.Author.Rules.{rules}
 use Rattle.frames.proofs.scanner.carry_out.Goals as goal
 
 pub slide-n-requires : goal.slide-n-requires

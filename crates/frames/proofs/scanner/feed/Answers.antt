@@ -1,14 +1,10 @@
 -- Each refusal is a case of the call; past them, the moves by what the search finds are the call. Assumes nothing.
 -- past the refusals the call is accepted
 use mathlib.Core.Path.{sym, ◌∙◌}
-use mathlib.Core.List.{List}
-use Prim.Native.Nat.{ℕ}
 use native.Mathlib.Omega.{arith}
-use Rattle.frames.specs.Call.{Scanner}
 use Rattle.frames.specs.Answers.{known}
 use Rattle.frames.proofs.CallLaws.{Fits, wrong_area, wrong_count, over_taken, over_limit, wrong_mode, long_piece, past_limit, small_output}
 use Rattle.frames.proofs.MovedLaws.{searched_can_hold, searched_moves}
-use borrow.Author.Rules.{rules}
 use Rattle.frames.proofs.scanner.feed.Goals as goal
 
 pub returns-then-held-ne1029 : goal.returns-then-held-ne1029

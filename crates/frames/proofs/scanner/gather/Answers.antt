@@ -5,7 +5,6 @@ use native.Mathlib.Omega.{arith}
 use lib.ListN.{take}
 use Rattle.bits.specs.Onto.{over}
 use Rattle.frames.proofs.SeamLaws.{gather_right, gather_across}
-use borrow.Author.Rules.{rules}
 use Rattle.frames.proofs.scanner.gather.Goals as goal
 
 pub returns-then-h-i : goal.returns-then-h-i

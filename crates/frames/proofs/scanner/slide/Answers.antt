@@ -2,7 +2,6 @@
 use mathlib.Core.Path.{refl, sym, ap, ◌∙◌}
 use Prim.Native.Nat.{◌-◌}
 use native.Mathlib.Omega.{arith}
-use borrow.Author.Rules.{rules}
 use Rattle.bits.specs.Onto.{over}
 use Rattle.frames.proofs.SeamLaws.{slide_all, slide_none, slide_right, slide_both}
 use Rattle.frames.proofs.scanner.slide.Goals as goal

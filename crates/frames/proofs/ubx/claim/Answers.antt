@@ -3,7 +3,6 @@ use mathlib.Core.Path.{sym, ◌∙◌}
 use native.Mathlib.Omega.{arith}
 use lib.ListN.{length-append}
 use Rattle.frames.proofs.UbxCandidateLaws.{payload_here, claimed, ubx_alone, ubx_other, ubx_few, ubx_long, ubx_cut}
-use borrow.Author.Rules.{rules}
 use Rattle.frames.proofs.ubx.claim.Goals as goal
 
 pub returns-then-left-lt2 : goal.returns-then-left-lt2

@@ -1,10 +1,8 @@
 -- The sums of the first k bytes and of each fewer are stored. Assumes nothing.
 use mathlib.Core.Path.{refl, ◌∙◌}
-use Prim.Native.Nat.{◌-◌}
 use native.Mathlib.Omega.{arith}
-use lib.ListN.{length, length-set}
-use borrow.Author.Rules.{rules}
-use Rattle.frames.proofs.RunLaws.{Running, running_first, running_more, running_end}
+use lib.ListN.{length-set}
+use Rattle.frames.proofs.RunLaws.{running_first, running_more, running_end}
 use Rattle.frames.proofs.ubx.runs.Goals as goal
 
 pub loop-k-init : goal.loop-k-init

@@ -1,10 +1,7 @@
 -- The sums of the first k bytes and of each fewer are stored. Assumes nothing.
-use mathlib.Core.Path.{refl, ◌∙◌}
 use Prim.Native.Nat.{◌-◌}
-use native.Mathlib.Omega.{arith}
-use lib.ListN.{length, length-set}
-use borrow.Author.Rules.{rules}
-use Rattle.frames.proofs.RunLaws.{Running, running_first, running_more, running_end}
+use lib.ListN.{length}
+use Rattle.frames.proofs.RunLaws.{Running}
 use Rattle.frames.proofs.ubx.runs.Given as goal
 
 abbrev pub invariant-loop-k : goal.invariant-loop-k

@@ -1,10 +1,6 @@
 -- The sums so far, continued over what is left, are those of the whole. Assumes nothing.
-use mathlib.Core.Path.{◌≡◌, refl, sym, ◌∙◌}
-use Prim.Native.Nat.{◌-◌, ◌≤◌, ◌<◌}
+use mathlib.Core.Path.{refl, sym, ◌∙◌}
 use native.Mathlib.Omega.{arith}
-use lib.ListN.{length, drop}
-use borrow.Author.Rules.{rules}
-use Rattle.frames.specs.Ubx.{sums_from}
 use Rattle.frames.proofs.SumsLaws.{sums_more, sums_end}
 use Rattle.frames.proofs.ubx.sums_from.Goals as goal
 

@@ -4,7 +4,6 @@ use native.Mathlib.Omega.{arith}
 use Rattle.frames.specs.Ubx.{sums}
 use Rattle.frames.proofs.SeamLaws.{part_right}
 use Rattle.frames.proofs.SumsLaws.{sums_across}
-use borrow.Author.Rules.{rules}
 use Rattle.frames.proofs.ubx.sums_of.Goals as goal
 
 pub returns-then-h-i : goal.returns-then-h-i

@@ -2,7 +2,6 @@
 use mathlib.Core.Path.{subst}
 use native.Mathlib.Omega.{arith}
 use mathlib.Core.List.{◌++◌}
-use borrow.Author.Rules.{rules}
 use Rattle.frames.specs.Steps.{Claim}
 use Rattle.frames.proofs.ubx.ubx_at.Goals as goal
 
