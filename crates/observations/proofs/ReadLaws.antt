@@ -1,8 +1,7 @@
 -- A call that reads message 1001: which answer is given when. Assumes nothing.
-use mathlib.Core.Path.{◌≡◌, sym, ap, ap₂, ◌∙◌}
+use mathlib.Core.Path.{◌≡◌, refl, sym, ap, ap₂, ◌∙◌}
 use mathlib.Core.Bool.{true, false}
 use mathlib.Core.List.{List, [], ◌∷◌}
-use mathlib.Core.Logic.{⊎_elim}
 use Prim.Native.Nat.{ℕ, ◌+◌, ◌-◌, ◌*◌, ◌≤◌, ◌<◌}
 use native.Mathlib.Omega.{arith}
 use borrow.Author.Tests.{lt-ltb, le-ltb}
@@ -23,7 +22,6 @@ use Rattle.observations.specs.Message1001.{Message, message, message1001, observ
 use Rattle.observations.specs.Lists.{Lists, places, even, filled}
 use Rattle.observations.specs.Read1001.{seen, sizes, read1001}
 use Rattle.observations.specs.Steps.{onward, Whole, told_row, observations_at, stored}
-use Rattle.observations.specs.contracts.read.Front.{the_type as front-type}
 use Rattle.observations.specs.contracts.read.Row.{the_type as row_type}
 use Rattle.observations.proofs.MessageLaws.{observation_good, observation_fixed, observation_bits}
 use Rattle.observations.proofs.ListLaws.{alike, stored_front, observations_are, observations_many}
@@ -31,8 +29,8 @@ use Rattle.observations.proofs.ListLaws.{alike, stored_front, observations_are, 
 -- ---- the first pass
 
 -- a front that is refused asks no more
-pub begun_refused : (s : List ℕ) (x : Front) → OneOf (1 ∷ 2 ∷ []) (tag_of front-type x) → Whole s x
-begun_refused s (F.Header h n) o = absurd (⊎_elim (λ p. omega arith) (λ p. omega arith) o)
+pub begun_refused : (s : List ℕ) (x : Front) → ((h : Header) (n : ℕ) → x ≡ F.Header h n → ⊥) → Whole s x
+begun_refused s (F.Header h n) o = absurd (o h n refl)
 begun_refused s (F.Short l) o = tt
 begun_refused s F.Kind o = tt
 

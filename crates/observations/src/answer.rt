@@ -1,7 +1,7 @@
 // What a message 1001 says, and what reading and writing one answer.
 
 // What stands before the observations, but for the count: DF003, DF004, DF005, DF007 and DF008.
-#[derive(Drop)]
+#[derive(Clone, Copy)]
 pub struct Header {
     pub station: u32,
     pub epoch: u32,

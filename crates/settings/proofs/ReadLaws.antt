@@ -1,15 +1,12 @@
 -- Which case of reading holds. Assumes nothing.
 use mathlib.Core.Path.{◌≡◌, refl, sym, ap, ap₂, ◌∙◌}
-use mathlib.Core.Logic.{⊎_elim}
 use mathlib.Core.Bool.{Bool, true, false, cond, not}
-use mathlib.Core.List.{List, [], ◌∷◌}
+use mathlib.Core.List.{List, []}
 use Prim.Native.Nat.{ℕ, ◌-◌, ◌≤◌, ◌<◌}
 use native.Mathlib.Omega.{arith}
 use lib.ListN.{length}
 use lib.Dec.{ltb, eqb}
 use borrow.Author.Tests.{lt-ltb, le-ltb, eq-eqb, ne_eqb, eqb-true, ltb-false, not-false}
-use types.Run.{OneOf}
-use denote.Enum.Declared.{tag_of}
 use Rattle.bits.specs.Told.{Told, Accepted, Refused, size, kind, range, bad_check}
 use Rattle.bits.specs.Outcome.{Outcome, outcome, refusing}
 use Rattle.bits.specs.Onto.{onto}
@@ -18,7 +15,6 @@ use Rattle.settings.specs.Read.{sent_sum, own_sum, can_read, zeros, filled, bad_
 use Rattle.settings.specs.Answers.{told_read}
 use Rattle.settings.specs.declared.read.BlockRead.{BlockRead}
 use Rattle.settings.specs.declared.read.BlockRead.TheVariants as R
-use Rattle.settings.specs.contracts.read.BlockRead.{the_type}
 
 -- ---- which editions a reader reads
 
@@ -173,15 +169,15 @@ module _ (s : List ℕ) (reader index : ℕ) (numbers priorities : List ℕ) whe
       unfolding read_settings
       whole = simp (eq-eqb _ _ l, eq-eqb _ _ m)
 
-      kept : (r : BlockRead) → OneOf (1 ∷ 2 ∷ 3 ∷ 4 ∷ []) (tag_of the_type r) → outcome (told_read r) (numbers, priorities) ≡ refusing (numbers, priorities) (told_read r) After
-      kept (R.Settings n e) o = absurd (⊎_elim (λ p. omega arith) (⊎_elim (λ p. omega arith) (⊎_elim (λ p. omega arith) (λ p. omega arith))) o)
+      kept : (r : BlockRead) → ((n e : ℕ) → r ≡ R.Settings n e → ⊥) → outcome (told_read r) (numbers, priorities) ≡ refusing (numbers, priorities) (told_read r) After
+      kept (R.Settings n e) o = absurd (o n e refl)
       kept R.Size o = refl
       kept (R.BadCheck a b) o = refl
       kept R.Kind o = refl
       kept (R.Range k) o = refl
 
       module _ (r : BlockRead) (q : told_read r ≡ judge s reader index) where
-        pub refused_read : OneOf (1 ∷ 2 ∷ 3 ∷ 4 ∷ []) (tag_of the_type r) → outcome (told_read r) (numbers, priorities) ≡ read_settings s reader index numbers priorities
+        pub refused_read : ((n e : ℕ) → r ≡ R.Settings n e → ⊥) → outcome (told_read r) (numbers, priorities) ≡ read_settings s reader index numbers priorities
         refused_read o = kept r o ∙ ap (λ (t : Told Found). refusing (numbers, priorities) t After) q ∙ whole
 
         pub accepted_read : (n e : ℕ) → r ≡ R.Settings n e → (a b : List ℕ) → a ≡ onto (numbers_in s) numbers → b ≡ onto (priorities_in s) priorities

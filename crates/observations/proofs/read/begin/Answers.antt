@@ -1,0 +1,17 @@
+-- `observations::read::begin` meets its contract. The number decides, and what stands behind it is read by the next. Assumes nothing.
+use mathlib.Core.Path.{sym, ap, ◌∙◌}
+use native.Mathlib.Omega.{arith}
+use Rattle.observations.specs.Steps.{told_number}
+use Rattle.observations.proofs.TakeLaws.{number_cut as cut}
+use Rattle.observations.proofs.FrontLaws.{number_cut, number_other, number_is}
+use Rattle.observations.proofs.read.begin.Goals as goal
+
+pub returns-in_default : goal.returns-in_default
+returns-in_default c = (number_cut _ (cut _ 0 12 c.take-number.result (assumption) c.take-number.ensures.0 c.lack_of.ensures), tt)
+
+pub returns-then-n-ne1001 : goal.returns-then-n-ne1001
+returns-then-n-ne1001 c = (number_other _ (sym c.take-number.ensures.0 ∙ ap told_number c.in-At.is) c.if-n-ne1001.true, tt)
+
+pub header_at-requires : goal.header_at-requires
+header_at-requires c =
+    (omega arith, number_is _ ((sym c.take-number.ensures.0 ∙ ap told_number c.in-At.is)) c.if-n-ne1001.false)

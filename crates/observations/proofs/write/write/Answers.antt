@@ -1,0 +1,40 @@
+-- `observations::write::write` meets its contract. Each answer is the one that the sizes, the header and the observations ask for. Assumes nothing.
+use mathlib.Core.Path.{sym, ap, ◌∙◌}
+use Rattle.observations.specs.Steps.{told_first}
+use Rattle.observations.proofs.ListLaws.{alike}
+use Rattle.observations.proofs.WriteLaws.{too_long, uneven, wide_header, faulty}
+use Rattle.observations.proofs.write.write.Goals as goal
+
+pub returns-then-bytes-gt1023 : goal.returns-then-bytes-gt1023
+returns-then-bytes-gt1023 c = too_long _ _ _ c.if-bytes-gt1023.true
+
+pub returns-then-not-even : goal.returns-then-not-even
+returns-then-not-even c = uneven _ _ _ c.if-bytes-gt1023.false (sym c.even.ensures ∙ c.if-not-even.true)
+
+pub returns-then-not-header_fits : goal.returns-then-not-header_fits
+returns-then-not-header_fits c = wide_header _ _ _ c.if-bytes-gt1023.false (sym c.even.ensures ∙ c.if-not-even.false) (sym c.header_fits.ensures ∙ c.if-not-header_fits.true)
+
+pub first_fault-requires : goal.first_fault-requires
+first_fault-requires c = alike _ (sym c.even.ensures ∙ c.if-not-even.false)
+
+pub write_sound-requires : goal.write_sound-requires
+write_sound-requires c =
+    record {
+      few = c.if-bytes-gt1023.false;
+      same = sym c.even.ensures ∙ c.if-not-even.false;
+      header = sym c.header_fits.ensures ∙ c.if-not-header_fits.false;
+      faultless = sym c.first_fault.ensures ∙ ap told_first c.in-None.is;
+    }
+
+pub returns-in-Satellite : goal.returns-in-Satellite
+returns-in-Satellite c =
+    faulty _ _ _ c.if-bytes-gt1023.false (sym c.even.ensures ∙ c.if-not-even.false) (sym c.header_fits.ensures ∙ c.if-not-header_fits.false)
+    (ap told_first (sym c.in-Satellite.is) ∙ c.first_fault.ensures)
+
+pub returns-in-Range : goal.returns-in-Range
+returns-in-Range c =
+    faulty _ _ _ c.if-bytes-gt1023.false (sym c.even.ensures ∙ c.if-not-even.false) (sym c.header_fits.ensures ∙ c.if-not-header_fits.false)
+    (ap told_first (sym c.in-Range.is) ∙ c.first_fault.ensures)
+
+pub returns-in-None : goal.returns-in-None
+returns-in-None c = c.write_sound.ensures
