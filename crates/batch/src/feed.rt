@@ -14,7 +14,7 @@ use frames::scanner::Scanner;
 // What a call answers: how many frames are listed, the bytes taken of the piece and the bytes skipped in this call,
 // whether the lists are full, the stream place of the first byte that was held before the call, and the scanner from now
 // on; or a refusal.
-#[derive(Drop)]
+#[derive(Clone, Copy)]
 pub enum FedAll {
     Frames {
         count: usize,

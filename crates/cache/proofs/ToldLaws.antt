@@ -5,7 +5,7 @@ use mathlib.Core.Bool.{cond}
 use lib.Dec.{eqb}
 use Rattle.bits.specs.Told.{Accepted, Refused, OneToOne}
 use Rattle.bits.proofs.ToldLaws.{found_again}
-use Rattle.cache.specs.Cache.{Value, value, Answer}
+use Rattle.cache.specs.Cache.{value, Answer}
 use Rattle.cache.specs.Answers.{told_stored, told_removed, told_found}
 use Rattle.cache.specs.declared.cache.Stored.{Stored}
 use Rattle.cache.specs.declared.cache.Stored.TheVariants as S

@@ -1,7 +1,7 @@
 -- What each answer of the code tells. Assumes nothing.
 use Rattle.std.proofs.Math.Option.{none, some}
 use Rattle.bits.specs.Told.{Accepted, range, size, full, absent}
-use Rattle.cache.specs.Cache.{Key, key, Value, value, Answer}
+use Rattle.cache.specs.Cache.{Key, key, value, Answer}
 use Rattle.cache.specs.declared.cache.Key as code
 use Rattle.cache.specs.declared.cache.Stored.{Stored}
 use Rattle.cache.specs.declared.cache.Stored.TheVariants as S

@@ -7,7 +7,7 @@ ghost use Rattle.cache.specs.Steps.{as_one};
 ghost use Rattle.cache.specs.Answers.{key_of, told_stored, told_removed, told_found};
 
 // What an entry is stored under.
-#[derive(Drop)]
+#[derive(Clone, Copy)]
 pub struct Key {
     pub provider: u32,
     pub solution: u32,

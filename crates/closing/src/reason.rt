@@ -7,7 +7,7 @@ use frames::frame::Checked;
 
 // What closing makes of a byte: it is given up, as not D3, as a D3 whose checksum was wrong or as a D3 that starts an
 // unfinished candidate; or a frame of so many bytes starts there. Size: there is no such byte.
-#[derive(Drop)]
+#[derive(Clone, Copy)]
 pub enum Ruled {
     NotD3,
     BadCheck { sent: u32, computed: u32 },
@@ -17,7 +17,7 @@ pub enum Ruled {
 }
 
 // Why a byte was skipped while feeding RTCM.
-#[derive(Drop)]
+#[derive(Clone, Copy)]
 pub enum Skip {
     NotD3,
     BadCheck,

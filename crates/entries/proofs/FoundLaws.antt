@@ -42,6 +42,13 @@ module _ (ask : ℕ) (e w : Entry) (l : List Entry) where
   abbrev pub left : Outcome (Option Value) (List (List ℕ))
   left = outcome (told_answer (told_of r)) (map numbers_of (set l (place_of r) w))
 
+  -- by what its parts ensure: the answer m of what was seen, s, from the beginning t, and the last list
+  pub left_by : (m : Answer) (s t : Seen) (last : List Entry) → m ≡ told_of s → s ≡ walk_from 0 t l → last ≡ set l (place_of s) w → t ≡ start_of ask e
+      → outcome (told_answer m) (map numbers_of last) ≡ left
+  left_by m s t last tells seen leaves begins =
+      ap₂ (λ (y : Answer) (z : List Entry). outcome (told_answer y) (map numbers_of z)) tells leaves
+      ∙ ap (λ (x : Seen). outcome (told_answer (told_of x)) (map numbers_of (set l (place_of x) w))) (seen ∙ ap (λ (x : Seen). walk_from 0 x l) begins)
+
   pub same_length : length ns ≡ length l
   same_length = length-map l numbers_of
 

@@ -13,7 +13,7 @@ use cache::cache::Key;
 
 // An entry: 1 if it is in use or 0 if it is free, its key, its IOD, and its bias in 16 bits of two's complement.
 #[repr(C)]
-#[derive(Drop)]
+#[derive(Clone, Copy)]
 pub struct Entry {
     pub in_use: u16,
     pub provider: u16,
@@ -37,7 +37,7 @@ pub enum Answer {
 
 // What was seen along the list: the first entry with the key that is wanted, and its place; the first free place; and
 // whether there are over 512 entries. `ask` is 0 to store, 1 to remove, 2 to look up, and 3 where a number is out of range.
-#[derive(Drop)]
+#[derive(Clone, Copy)]
 struct Seen {
     ask: u32,
     wanted: Entry,

@@ -1,0 +1,26 @@
+-- The loop has moved the first k bytes. Assumes nothing.
+use mathlib.Core.Path.{◌≡◌, refl, ap, ◌∙◌}
+use mathlib.Core.List.{◌++◌}
+use Prim.Native.Nat.{◌+◌, ◌-◌, ◌≤◌}
+use native.Mathlib.Omega.{arith}
+use lib.ListN.{length, take, drop, get_or, set, length-set}
+use borrow.Author.Rules.{rules}
+use Rattle.frames.proofs.SeamLaws.{shift_turn}
+use Rattle.batch.proofs.copy.shift.Goals as goal
+
+pub loop-k-init : goal.loop-k-init
+loop-k-init c = (omega arith, refl, refl)
+
+pub loop-k-preserved : goal.loop-k-preserved
+loop-k-preserved c =
+    let a = c.args in (
+      omega arith,
+      ap (λ x. set x c.loop-k.k (get_or x (a.i + c.loop-k.k) 0)) c.loop-k.invariant.1 ∙ shift_turn a.held.now a.i c.loop-k.k (omega arith),
+      rw length-set c.loop-k.invariant.2,
+    )
+
+pub returns : goal.returns
+returns c =
+    let a = c.args in
+    let e : c.loop-k.k ≡ a.n = omega arith in
+    c.loop-k.invariant.1 ∙ rw e

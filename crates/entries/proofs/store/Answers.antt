@@ -1,0 +1,11 @@
+-- The walk tells and leaves what the cache's call does. Assumes nothing.
+use Rattle.std.proofs.Common.{◌<◌, ◌^◌, arith, length, ◌∙◌}
+use Rattle.entries.specs.Walk.{ask_to_store}
+use Rattle.entries.proofs.FoundLaws.{left_by, store_found}
+use Rattle.entries.proofs.store.Goals as goal
+
+pub returns : goal.returns
+returns c =
+    let small : length c.args.s.now < 2 ^ 64 = omega arith in
+    left_by (ask_to_store c.args.e) c.args.e c.used.result c.args.s.now c.told.result c.walk.result c.storing.result c.walk.new.s c.told.ensures c.walk.ensures.0 c.walk.ensures.1 c.storing.ensures
+    ∙ store_found c.args.e c.used.result c.args.s.now small c.used.ensures
