@@ -14,36 +14,6 @@ use Rattle.batch.proofs.CallLaws.{FitsAll, long_piece, past_limit, uneven_length
 use Rattle.batch.proofs.StopLaws.{within_area}
 use Rattle.batch.proofs.feed.list_frames.Goals as goal
 
-module _ (c : tie.After-walk) where
-  abbrev lent : Areas
-  lent = areas c.before.before.before.before.before.before.before.before.before.before.before.before.before.before.before.before.before.before.before.args.held.now c.before.before.before.before.before.before.before.before.before.before.before.before.before.before.before.before.before.before.before.args.seam.now c.before.before.before.before.before.before.before.before.before.before.before.before.before.before.before.before.before.before.before.args.starts.now c.before.before.before.before.before.before.before.before.before.before.before.before.before.before.before.before.before.before.before.args.lengths.now c.before.before.before.before.before.before.before.before.before.before.before.before.before.before.before.before.before.before.before.args.kinds.now
-
-  abbrev scanner : Scanner
-  scanner = known c.before.before.before.before.before.before.before.before.before.before.before.before.before.before.before.before.before.before.before.args.scanner
-
-  abbrev mode : ℕ
-  mode = c.before.before.before.before.before.before.before.before.before.before.before.before.before.before.before.before.before.before.before.args.scanner.mode
-
-  abbrev piece : List ℕ
-  piece = c.before.before.before.before.before.before.before.before.before.before.before.before.before.before.before.before.before.before.before.args.piece.now
-
-  fits : FitsAll lent scanner piece
-  fits =
-      let p = c.before.before.before.before.before.before.before.before.before.before.before.before.before.before.before.before.before.before.before.requires in
-      record {
-        area = p.0;
-        seam = p.1;
-        count = p.2;
-        held = p.3;
-        taken = p.4;
-        mode = p.5;
-        piece = omega arith;
-        limit = omega arith;
-        lengths = omega arith;
-        kinds = omega arith;
-        some = omega arith;
-      }
-
 pub returns-then-piece-gt65536 : goal.returns-then-piece-gt65536
 returns-then-piece-gt65536 c = let p = c.requires in long_piece _ _ _ _ p.0 p.1 p.2 p.3 p.4 p.5 (omega arith)
 
@@ -62,11 +32,39 @@ returns-then-starts-eq0 c = let p = c.requires in no_place _ _ _ _ p.0 p.1 p.2 p
 pub settle-requires : goal.settle-requires
 settle-requires c =
     let a = c.args in
-    let f = fits c in
+    let p = c.requires in
+    let f : FitsAll (areas a.held.now a.seam.now a.starts.now a.lengths.now a.kinds.now) (known a.scanner) a.piece.now = record {
+        area = p.0;
+        seam = p.1;
+        count = p.2;
+        held = p.3;
+        taken = p.4;
+        mode = p.5;
+        piece = omega arith;
+        limit = omega arith;
+        lengths = omega arith;
+        kinds = omega arith;
+        some = omega arith;
+      } in
     let room : a.scanner.count ≤ length a.held.now = omega (arith, f.area, f.count) in
     let limit : a.scanner.taken + length a.piece.now < 2 ^ 64 = omega (arith, f.limit) in
     (room, f.held, limit, within_area _ a.held.now a.scanner.count (length a.piece.now) f.area room c.walk-found.ensures.within)
 
 pub returns : goal.returns
 returns c =
-    all_called (framing_of (mode c)) (lent c) (scanner c) (piece c) (fits c) _ (lists _ _ _ _) c.walk-found.ensures c.settle.ensures
+    let a = c.args in
+    let p = c.requires in
+    let f : FitsAll (areas a.held.now a.seam.now a.starts.now a.lengths.now a.kinds.now) (known a.scanner) a.piece.now = record {
+        area = p.0;
+        seam = p.1;
+        count = p.2;
+        held = p.3;
+        taken = p.4;
+        mode = p.5;
+        piece = omega arith;
+        limit = omega arith;
+        lengths = omega arith;
+        kinds = omega arith;
+        some = omega arith;
+      } in
+    all_called (framing_of a.scanner.mode) (areas a.held.now a.seam.now a.starts.now a.lengths.now a.kinds.now) (known a.scanner) a.piece.now f _ (lists _ _ _ _) c.walk-found.ensures c.settle.ensures
