@@ -1,6 +1,6 @@
--- What the two arms of a `let .. else` tell of a field, and the other arm of a pass. Assumes nothing.
+-- What the two arms of a `let .. else` tell of a field, and the other arm of a pass and of a write. Assumes nothing.
 use mathlib.Core.Path.{◌≡◌, refl, sym, ap, ◌∙◌}
-use mathlib.Core.Logic.{⊎_elim}
+use mathlib.Core.Logic.{inl, inr}
 use mathlib.Core.List.{List, [], ◌∷◌}
 use Prim.Native.Nat.{ℕ, ◌+◌, ◌*◌, ◌^◌, ◌≤◌, ◌<◌}
 use native.Mathlib.Omega.{arith}
@@ -16,14 +16,14 @@ use Rattle.bits.specs.declared.field.Unsigned.{Unsigned}
 use Rattle.bits.specs.declared.field.Unsigned.TheVariants as U
 use Rattle.bits.specs.declared.field.Signed.{Signed}
 use Rattle.bits.specs.declared.field.Signed.TheVariants as S
-use Rattle.bits.specs.contracts.field.Unsigned.{the_type as unsigned-type}
-use Rattle.bits.specs.contracts.field.Signed.{the_type as signed-type}
+use Rattle.bits.specs.declared.field.Written.{Written}
+use Rattle.bits.specs.declared.field.Written.TheVariants as W
+use Rattle.bits.specs.contracts.field.Written.{the_type as written-type}
 use Rattle.bits.proofs.ReadLaws.{reads_value, reads_short, refused_short, refused_behind, read_tells, value_tells}
 use Rattle.messages.specs.Records.{Counted}
 use Rattle.messages.specs.Answers.{told_read}
 use Rattle.messages.specs.declared.answer.BlockRead.{BlockRead}
 use Rattle.messages.specs.declared.answer.BlockRead.TheVariants as R
-use Rattle.messages.specs.contracts.answer.BlockRead.{the_type as read-type}
 
 -- ---- the value
 
@@ -45,23 +45,20 @@ pub is_short : {A : Type 0} {t : Told A} {carried : List ℕ} → t ≡ Refused 
 is_short {carried = c} e = record { number = 1; carried = c; is = e }
 
 -- of four variants it is none but the first
-other : {n : ℕ} → OneOf (1 ∷ 2 ∷ 3 ∷ []) n → n ≡ 0 → ⊥
-other o e = ⊎_elim (λ p. omega arith) (λ q. ⊎_elim (λ p. omega arith) (λ p. omega arith) q) o
-
-unsigned_refused : (r : Unsigned) → OneOf (1 ∷ 2 ∷ 3 ∷ []) (tag_of unsigned-type r) → IsRefused (told_unsigned r)
-unsigned_refused (U.Value v q) o = absurd (other o refl)
+unsigned_refused : (r : Unsigned) → ((v q : ℕ) → r ≡ U.Value v q → ⊥) → IsRefused (told_unsigned r)
+unsigned_refused (U.Value v q) o = absurd (o _ _ refl)
 unsigned_refused U.Size o = record { number = 9; carried = []; is = refl }
 unsigned_refused U.Width o = record { number = 2; carried = []; is = refl }
 unsigned_refused (U.Short p m) o = record { number = 1; carried = p ∷ m ∷ []; is = refl }
 
-signed_refused : (r : Signed) → OneOf (1 ∷ 2 ∷ 3 ∷ []) (tag_of signed-type r) → IsRefused (told_signed r)
-signed_refused (S.Value v q) o = absurd (other o refl)
+signed_refused : (r : Signed) → ((v : ℤ) (q : ℕ) → r ≡ S.Value v q → ⊥) → IsRefused (told_signed r)
+signed_refused (S.Value v q) o = absurd (o _ _ refl)
 signed_refused S.Size o = record { number = 9; carried = []; is = refl }
 signed_refused S.Width o = record { number = 2; carried = []; is = refl }
 signed_refused (S.Short p m) o = record { number = 1; carried = p ∷ m ∷ []; is = refl }
 
-pub read_refused : (r : BlockRead) → OneOf (1 ∷ 2 ∷ 3 ∷ []) (tag_of read-type r) → IsRefused (told_read r)
-read_refused (R.Records n q) o = absurd (other o refl)
+pub read_refused : (r : BlockRead) → ((n q : ℕ) → r ≡ R.Records n q → ⊥) → IsRefused (told_read r)
+read_refused (R.Records n q) o = absurd (o _ _ refl)
 read_refused R.Size o = record { number = 9; carried = []; is = refl }
 read_refused (R.Short p m) o = record { number = 1; carried = p ∷ m ∷ []; is = refl }
 read_refused (R.Room n) o = record { number = 8; carried = n ∷ []; is = refl }
@@ -71,18 +68,18 @@ module _ (s : List ℕ) (p w : ℕ) (few : length s ≤ 1023) (low : 1 ≤ w) (h
   refused_cut : {A : Type 0} (meaning : ℕ → A) {t : Told (Reading A)} → IsRefused t → t ≡ read_by meaning s p w → read_by meaning s p w ≡ cut_at (length s) p w
   refused_cut meaning r e = refused_short meaning s p w few low high (sym e ∙ r.is)
 
-  pub unsigned_cut : (r : Unsigned) → told_unsigned r ≡ read_unsigned s p w → OneOf (1 ∷ 2 ∷ 3 ∷ []) (tag_of unsigned-type r)
+  pub unsigned_cut : (r : Unsigned) → told_unsigned r ≡ read_unsigned s p w → ((v q : ℕ) → r ≡ U.Value v q → ⊥)
       → {answer : Told Counted} → ((carried : List ℕ) → told_unsigned r ≡ Refused 1 carried → answer ≡ Refused 1 carried)
       → (read_unsigned s p w ≡ cut_at (length s) p w) × (answer ≡ cut_at (length s) p w)
   unsigned_cut r e o passed = let k = refused_cut (λ v. v) (unsigned_refused r o) e in (k, passed _ (e ∙ k))
 
-  pub twos_cut : (r : Signed) → told_signed r ≡ read_twos s p w → OneOf (1 ∷ 2 ∷ 3 ∷ []) (tag_of signed-type r)
+  pub twos_cut : (r : Signed) → told_signed r ≡ read_twos s p w → ((v : ℤ) (q : ℕ) → r ≡ S.Value v q → ⊥)
       → {answer : Told Counted} → ((carried : List ℕ) → told_signed r ≡ Refused 1 carried → answer ≡ Refused 1 carried)
       → (read_twos s p w ≡ cut_at (length s) p w) × (answer ≡ cut_at (length s) p w)
   twos_cut r e o passed = let k = refused_cut (twos_of w) (signed_refused r o) e in (k, passed _ (e ∙ k))
 
   -- a field that lies within the data is not refused
-  pub not_refused : p + w ≤ length s * 8 → (r : Unsigned) → told_unsigned r ≡ read_unsigned s p w → OneOf (1 ∷ 2 ∷ 3 ∷ []) (tag_of unsigned-type r) → ⊥
+  pub not_refused : p + w ≤ length s * 8 → (r : Unsigned) → told_unsigned r ≡ read_unsigned s p w → ((v q : ℕ) → r ≡ U.Value v q → ⊥) → ⊥
   not_refused h r e o =
       let d = sym e ∙ (unsigned_refused r o).is in
       let f = reads_value (λ v. v) s p w few low high h in
@@ -100,24 +97,31 @@ module _ (s : List ℕ) (p w : ℕ) (few : length s ≤ 1023) (low : 1 ≤ w) (h
 
 -- ---- the Short of a field, passed on
 
--- of four variants it is none but the last
-not_last : {n : ℕ} → OneOf (0 ∷ 1 ∷ 2 ∷ []) n → n ≡ 3 → ⊥
-not_last o e = ⊎_elim (λ p. omega arith) (λ q. ⊎_elim (λ p. omega arith) (λ p. omega arith) q) o
-
 pub unsigned_passed : (r : Unsigned) {p m : ℕ} → r ≡ U.Short p m → (carried : List ℕ) → told_unsigned r ≡ Refused 1 carried → told_read (R.Short p m) ≡ Refused 1 carried
 unsigned_passed r g carried e = ap (λ (t : Told (Reading ℕ)). and_then t (λ a. size)) (ap told_unsigned (sym g) ∙ e)
 
 pub signed_passed : (r : Signed) {p m : ℕ} → r ≡ S.Short p m → (carried : List ℕ) → told_signed r ≡ Refused 1 carried → told_read (R.Short p m) ≡ Refused 1 carried
 signed_passed r g carried e = ap (λ (t : Told (Reading ℤ)). and_then t (λ a. size)) (ap told_signed (sym g) ∙ e)
 
-pub unsigned_not_short : (r : Unsigned) → OneOf (0 ∷ 1 ∷ 2 ∷ []) (tag_of unsigned-type r) → (carried : List ℕ) → told_unsigned r ≡ Refused 1 carried → ⊥
+-- of four variants it is none but the last
+pub unsigned_not_short : (r : Unsigned) → ((p m : ℕ) → r ≡ U.Short p m → ⊥) → (carried : List ℕ) → told_unsigned r ≡ Refused 1 carried → ⊥
 unsigned_not_short (U.Value v q) o carried e = let z : ◌≡◌ {A = ℕ} 0 1 = cc in omega arith
 unsigned_not_short U.Size o carried e = let z : ◌≡◌ {A = ℕ} 9 1 = cc in omega arith
 unsigned_not_short U.Width o carried e = let z : ◌≡◌ {A = ℕ} 2 1 = cc in omega arith
-unsigned_not_short (U.Short p m) o carried e = not_last o refl
+unsigned_not_short (U.Short p m) o carried e = o p m refl
 
-pub signed_not_short : (r : Signed) → OneOf (0 ∷ 1 ∷ 2 ∷ []) (tag_of signed-type r) → (carried : List ℕ) → told_signed r ≡ Refused 1 carried → ⊥
+pub signed_not_short : (r : Signed) → ((p m : ℕ) → r ≡ S.Short p m → ⊥) → (carried : List ℕ) → told_signed r ≡ Refused 1 carried → ⊥
 signed_not_short (S.Value v q) o carried e = let z : ◌≡◌ {A = ℕ} 0 1 = cc in omega arith
 signed_not_short S.Size o carried e = let z : ◌≡◌ {A = ℕ} 9 1 = cc in omega arith
 signed_not_short S.Width o carried e = let z : ◌≡◌ {A = ℕ} 2 1 = cc in omega arith
-signed_not_short (S.Short p m) o carried e = not_last o refl
+signed_not_short (S.Short p m) o carried e = o p m refl
+
+-- ---- an answer to a write
+
+-- of five variants it is none but the first
+pub other_written : (r : Written) → ((q : ℕ) → r ≡ W.End q → ⊥) → OneOf (1 ∷ 2 ∷ 3 ∷ 4 ∷ []) (tag_of written-type r)
+other_written (W.End q) o = absurd (o q refl)
+other_written W.Size o = inl refl
+other_written W.Width o = inr (inl refl)
+other_written W.Range o = inr (inr (inl refl))
+other_written (W.Room w) o = inr (inr (inr refl))

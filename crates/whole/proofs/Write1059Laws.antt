@@ -1,21 +1,18 @@
 -- A call that writes message 1059: which answer is given when. Assumes nothing.
 use mathlib.Core.Path.{◌≡◌, sym, ap, ◌∙◌}
 use mathlib.Core.Bool.{true, false}
-use mathlib.Core.List.{List, [], ◌∷◌}
+use mathlib.Core.List.{List}
 use Prim.Native.Nat.{ℕ, ◌≤◌, ◌<◌}
 use native.Mathlib.Omega.{arith}
 use borrow.Author.Tests.{lt-ltb, le-ltb, eq-eqb, ne_eqb}
 use lib.ListN.{length}
 use lib.IntN.{ℤ}
-use types.Run.{OneOf}
-use denote.Enum.Declared.{tag_of}
 use Rattle.bits.specs.Told.{Told, size, kind, range, room}
 use Rattle.bits.specs.Outcome.{Outcome, outcome}
 use Rattle.formats.specs.Put.{RoomFor, IsPut}
 use Rattle.messages.specs.Answers.{told_block}
 use Rattle.messages.specs.declared.answer.BlockWritten.{BlockWritten}
 use Rattle.messages.specs.declared.answer.BlockWritten.TheVariants as W
-use Rattle.messages.specs.contracts.answer.BlockWritten.{the_type}
 use Rattle.messages.specs.Signals1059.{is_edition}
 use Rattle.messages.specs.Write1059.{write1059}
 use Rattle.messages.proofs.Accepts1059.{call_accepted}
@@ -80,5 +77,5 @@ module _ (e : ℕ) (s : List ℕ) (h : Header1059) (sats gs : List ℕ) (zs : Li
                 pub written : {q : ℕ} → w ≡ W.End q → {v : List ℕ} {p : ℕ} → IsPut u 0 (fields1059 h) v p → outcome (told_block w) v ≡ call
                 written r d = tells_end 61 (fields1059 h) w u r d ∙ goes_on o
 
-                pub other : OneOf (1 ∷ 2 ∷ 3 ∷ 4 ∷ 5 ∷ 6 ∷ 8 ∷ []) (tag_of the_type w) → outcome (told_block w) u ≡ call
-                other k = tells_other 61 (fields1059 h) w u k ∙ goes_on o
+                pub other : ((q : ℕ) → w ≡ W.End q → ⊥) → ((n : ℕ) → w ≡ W.Room n → ⊥) → outcome (told_block w) u ≡ call
+                other a b = tells_other 61 (fields1059 h) w u a b ∙ goes_on o

@@ -1,7 +1,7 @@
 // Headers of messages, and what reading a message answers. Writing one answers as writing its block does.
 
 // What stands between the number and the block of message 1059.
-#[derive(Drop)]
+#[derive(Clone, Copy)]
 pub struct Header1059 {
     pub epoch: u32,
     pub interval: u32,
@@ -28,7 +28,7 @@ pub enum Message1059 {
 }
 
 // What stands between the number and the block of message 1230.
-#[derive(Drop)]
+#[derive(Clone, Copy)]
 pub struct Header1230 {
     pub station: u32,
     pub indicator: u32,

@@ -1,8 +1,8 @@
 -- `messages::pen::draw` meets its contract. The number is held behind what is held, and the first 32 bits of both are stored once there are so many. Assumes nothing.
+use borrow.Author.Rules.{rules}
 use native.Mathlib.Omega.{arith}
 use Rattle.bits.specs.Fields.{Bytes}
 use Rattle.messages.proofs.PenLaws.{one_within, one_put, joined_fits, drawn_few, drawn_four}
-use borrow.Author.Rules.{rules}
 use Rattle.messages.proofs.pen.draw.Goals as goal
 
 pub overflow_add-at : goal.overflow_add-at
@@ -24,10 +24,10 @@ returns-then-pen-width-lt32 c =
 pub put_four-requires : goal.put_four-requires
 put_four-requires c =
     let w = one_within c.args.bytes.now c.args.pen.at c.args.pen.bits c.requires.0 in
-    (omega (arith, w.1, c.if-pen-width-lt32.false), w.0, record { byte = λ k. (c.slice_known-1.given k).fits })
+    (omega (arith, w.1, c.if-pen-width-lt32.false), w.0, record { byte = λ k. search rules })
 
 pub returns : goal.returns
 returns c =
     let w = one_within c.args.bytes.now c.args.pen.at c.args.pen.bits c.requires.0 in
-    let b : Bytes c.args.bytes.now = record { byte = λ k. (c.slice_known-1.given k).fits } in
+    let b : Bytes c.args.bytes.now = record { byte = λ k. search rules } in
     one_put _ _ _ _ (drawn_four c.args.bytes.now c.args.pen.at c.args.pen.bits c.args.width c.args.number b w.1 c.requires.1 c.requires.2 (omega (arith, c.if-pen-width-lt32.false)) c.put_four.ensures)

@@ -1,4 +1,5 @@
 -- `messages::pen::lift` meets its contract. What is held is a field behind the last four bytes that are stored. Assumes nothing.
+use borrow.Author.Rules.{rules}
 use mathlib.Core.Path.{sym, ◌∙◌}
 use Prim.Native.Nat.{◌%◌}
 use native.Mathlib.Omega.{arith}
@@ -6,7 +7,6 @@ use Rattle.bits.specs.Fields.{Bytes}
 use lib.Pow.{pow_pos}
 use Rattle.bits.proofs.FieldsLaws.{put_one}
 use Rattle.messages.proofs.PenLaws.{opened_none, one_bit, rest_fits, lifted}
-use borrow.Author.Rules.{rules}
 use Rattle.messages.proofs.pen.lift.Goals as goal
 
 pub returns-then-count-eq0 : goal.returns-then-count-eq0
@@ -24,5 +24,5 @@ unsigned-end-requires c =
 
 pub returns : goal.returns
 returns c =
-    let b : Bytes c.args.bytes.now = record { byte = λ k. (c.slice_known-1.given k).fits } in
+    let b : Bytes c.args.bytes.now = record { byte = λ k. search rules } in
     lifted c.args.bytes.now c.args.pen.at c.args.pen.bits c.requires.1 b (c.unsigned-end.ensures.left ∙ put_one _ _ _ _)

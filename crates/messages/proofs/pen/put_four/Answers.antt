@@ -2,7 +2,6 @@
 use native.Mathlib.Omega.{arith}
 use lib.ListN.{length-set}
 use Rattle.messages.proofs.PenLaws.{four_written}
-use borrow.Author.Rules.{rules}
 use Rattle.messages.proofs.pen.put_four.Goals as goal
 
 pub bounds-bytes-i-2 : goal.bounds-bytes-i-2

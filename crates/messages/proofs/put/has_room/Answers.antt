@@ -1,5 +1,4 @@
 -- `messages::put::has_room` meets its contract. The code subtracts where the definition adds. Assumes nothing.
-use borrow.Author.Rules.{rules}
 use mathlib.Core.Path.{sym}
 use Prim.Native.Nat.{◌+◌, ◌*◌}
 use native.Mathlib.Omega.{arith}

@@ -6,7 +6,6 @@ use mir.Syntax.{w16}
 use mir.ValLaws.{to_z_pos}
 use Rattle.bits.proofs.SignedLaws.{twos_low, twos_high}
 use Rattle.messages.proofs.I16Laws.{minus_one_16}
-use borrow.Author.Rules.{rules}
 use Rattle.messages.proofs.read1059.bias_of.Goals as goal
 
 pub returns-then-number-lt8192 : goal.returns-then-number-lt8192

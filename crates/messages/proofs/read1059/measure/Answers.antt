@@ -1,10 +1,7 @@
 -- `messages::read1059::measure` meets its contract. What is counted so far, and what is left, are the whole. Assumes nothing.
-use mathlib.Core.Path.{◌≡◌, sym, ap, ◌∙◌}
-use Prim.Native.Nat.{◌-◌, ◌*◌, ◌≤◌}
+use mathlib.Core.Path.{sym, ap, ◌∙◌}
 use native.Mathlib.Omega.{arith}
-use borrow.Author.Rules.{rules}
-use Rattle.messages.specs.StepsRead.{many, counts}
-use Rattle.messages.specs.StepsRead1059.{satellite_at}
+use Rattle.messages.specs.StepsRead.{counts}
 use Rattle.messages.specs.Answers.{told_read}
 use Rattle.messages.proofs.ArmLaws.{read_refused}
 use Rattle.messages.proofs.PassLaws.{counts_none, many_all, many_none, many_counts_on, many_counts_stop}
@@ -17,7 +14,7 @@ loop-k-init c = (omega arith, omega arith, ap (counts 0) (many_all _ _ _))
 pub returns-in_default : goal.returns-in_default
 returns-in_default c =
     let l = c.loop-k in
-    let r = read_refused c.measure_satellite-one.result c.in_default.keys2 in
+    let r = read_refused c.measure_satellite-one.result c.in_default.not-Records in
     r.is
     ∙ sym (l.invariant.2 ∙ many_counts_stop _ _ _ _ (omega arith) l.i (sym r.is ∙ c.measure_satellite-one.ensures))
 

@@ -1,14 +1,8 @@
 -- `messages::read1059::measure` meets its contract. What is counted so far, and what is left, are the whole. Assumes nothing.
-use mathlib.Core.Path.{◌≡◌, sym, ap, ◌∙◌}
+use mathlib.Core.Path.{◌≡◌}
 use Prim.Native.Nat.{◌-◌, ◌*◌, ◌≤◌}
-use native.Mathlib.Omega.{arith}
-use borrow.Author.Rules.{rules}
 use Rattle.messages.specs.StepsRead.{many, counts}
 use Rattle.messages.specs.StepsRead1059.{satellite_at}
-use Rattle.messages.specs.Answers.{told_read}
-use Rattle.messages.proofs.ArmLaws.{read_refused}
-use Rattle.messages.proofs.PassLaws.{counts_none, many_all, many_none, many_counts_on, many_counts_stop}
-use Rattle.messages.proofs.Read1059Laws.{few_more}
 use Rattle.messages.proofs.read1059.measure.Given as goal
 
 abbrev pub invariant-loop-k : goal.invariant-loop-k

@@ -4,7 +4,6 @@ use native.Mathlib.Omega.{arith}
 use Rattle.bits.specs.Answers.{told_unsigned}
 use Rattle.messages.proofs.ArmLaws.{unsigned_cut, twos_behind, cut_behind, value_within}
 use Rattle.messages.proofs.Read1059Laws.{biases_fit, no_signal, no_bias}
-use borrow.Author.Rules.{rules}
 use Rattle.messages.proofs.read1059.measure_biases.Goals as goal
 
 pub returns-then-n-whole : goal.returns-then-n-whole
@@ -13,7 +12,7 @@ returns-then-n-whole c = λ a. biases_fit _ (omega arith) a _ _ _ (omega arith)
 pub returns-in_default : goal.returns-in_default
 returns-in_default c =
     let r = c.read_unsigned-read in
-    let k = unsigned_cut _ _ 5 (omega arith) (omega arith) (omega arith) r.result r.ensures c.in_default.keys2 c.unread.ensures in
+    let k = unsigned_cut _ _ 5 (omega arith) (omega arith) (omega arith) r.result r.ensures c.in_default.not-Value c.unread.ensures in
     let l = cut_behind _ _ 5 (omega arith) (omega arith) (omega arith) k.0 in
     λ a. no_signal _ (omega arith) a _ _ _ _ (omega arith) (omega arith) (omega arith) k.1
 

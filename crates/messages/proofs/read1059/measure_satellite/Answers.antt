@@ -6,20 +6,19 @@ use Rattle.messages.specs.StepsRead.{counts}
 use Rattle.messages.proofs.ArmLaws.{unsigned_cut, value_within}
 use Rattle.messages.proofs.PassLaws.{counts_short}
 use Rattle.messages.proofs.Read1059Laws.{satellite_cut, satellite_cut_2, satellite_read}
-use borrow.Author.Rules.{rules}
 use Rattle.messages.proofs.read1059.measure_satellite.Goals as goal
 
 pub returns-in_default : goal.returns-in_default
 returns-in_default c =
     let r = c.read_unsigned-read in
-    let k = unsigned_cut _ _ 6 (omega arith) (omega arith) (omega arith) r.result r.ensures c.in_default.keys2 c.unread.ensures in
+    let k = unsigned_cut _ _ 6 (omega arith) (omega arith) (omega arith) r.result r.ensures c.in_default.not-Value c.unread.ensures in
     counts_short _ (satellite_cut _ _ k.0) k.1
 
 pub returns-in_default-read : goal.returns-in_default-read
 returns-in_default-read c =
     let e = sym c.read_unsigned-read.ensures ∙ ap told_unsigned c.in-Value.is in
     let r = c.read_unsigned-read-2 in
-    let k = unsigned_cut _ _ 5 (omega arith) (omega arith) (omega arith) r.result r.ensures c.in_default-read.keys2 c.unread-in_default-read.ensures in
+    let k = unsigned_cut _ _ 5 (omega arith) (omega arith) (omega arith) r.result r.ensures c.in_default-read.not-Value c.unread-in_default-read.ensures in
     counts_short _ (satellite_cut_2 _ _ e k.0) k.1
 
 pub measure_biases-requires : goal.measure_biases-requires

@@ -4,7 +4,6 @@ use native.Mathlib.Omega.{arith}
 use Rattle.bits.specs.Answers.{told_unsigned}
 use Rattle.messages.proofs.ArmLaws.{unsigned_cut, value_within}
 use Rattle.messages.proofs.Read1059Laws.{too_long, uneven, uneven_2, count_cut, count_read}
-use borrow.Author.Rules.{rules}
 use Rattle.messages.proofs.read1059.read.Goals as goal
 
 pub returns-then-bytes-gt1023 : goal.returns-then-bytes-gt1023
@@ -19,7 +18,7 @@ returns-then-satellites-biases c = uneven_2 _ _ _ _ _ (omega arith) c.if-satelli
 pub returns-in_default : goal.returns-in_default
 returns-in_default c =
     let r = c.read_unsigned-read in
-    let k = unsigned_cut _ _ 6 (omega arith) (omega arith) (omega arith) r.result r.ensures c.in_default.keys2 c.unread.ensures in
+    let k = unsigned_cut _ _ 6 (omega arith) (omega arith) (omega arith) r.result r.ensures c.in_default.not-Value c.unread.ensures in
     count_cut _ _ _ _ _ (omega arith) c.if-satellites-signals.false c.if-satellites-biases.false k.0 k.1
 
 pub read_satellites-requires : goal.read_satellites-requires

@@ -6,7 +6,6 @@ use Rattle.messages.specs.Answers.{told_read}
 use Rattle.messages.proofs.ArmLaws.{read_refused}
 use Rattle.messages.proofs.CallLaws.{has_room, refuses, lacks_room, reads}
 use Rattle.messages.proofs.Read1059Laws.{outcome_of, call1059}
-use borrow.Author.Rules.{rules}
 use Rattle.messages.proofs.read1059.read_satellites.Goals as goal
 
 pub measure-extent-requires : goal.measure-extent-requires
@@ -15,7 +14,7 @@ measure-extent-requires c = (omega arith, omega arith)
 pub returns-in_default : goal.returns-in_default
 returns-in_default c =
     let m = c.measure-extent in
-    refuses put1059 outcome_of (call1059 _ _ _ _ _ _ (omega arith) (omega arith)) (read_refused m.result c.in_default.keys2) m.ensures
+    refuses put1059 outcome_of (call1059 _ _ _ _ _ _ (omega arith) (omega arith)) (read_refused m.result c.in_default.not-Records) m.ensures
 
 pub returns-then-satellites-count : goal.returns-then-satellites-count
 returns-then-satellites-count c =

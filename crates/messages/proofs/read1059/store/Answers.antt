@@ -1,15 +1,11 @@
 -- `messages::read1059::store` meets its contract. The satellites are stored one behind the other. Assumes nothing.
-use mathlib.Core.Path.{◌≡◌, refl, ap}
-use Prim.Native.Nat.{◌-◌, ◌≤◌}
+use mathlib.Core.Path.{refl, ap}
 use native.Mathlib.Omega.{arith}
-use borrow.Author.Rules.{rules}
-use lib.ListN.{length}
-use Rattle.messages.specs.StepsRead.{many, lists1059, put1059}
-use Rattle.messages.specs.StepsRead1059.{satellite_at}
+use Rattle.messages.specs.StepsRead.{put1059}
 use Rattle.messages.specs.Answers.{told_read}
 use Rattle.messages.proofs.ArmLaws.{read_refused}
 use Rattle.messages.proofs.PassLaws.{many_all}
-use Rattle.messages.proofs.StoreLaws.{Doing, begun, left_as, turn_suffices, turn_read, turn_stored, turns_done, put1059_none, put1059_on}
+use Rattle.messages.proofs.StoreLaws.{begun, left_as, turn_suffices, turn_read, turn_stored, turns_done, put1059_none, put1059_on}
 use Rattle.messages.proofs.read1059.store.Goals as goal
 
 pub loop-k-init : goal.loop-k-init
@@ -32,7 +28,7 @@ pub returns-in_default : goal.returns-in_default
 returns-in_default c =
     let l = c.loop-k in
     let s = c.store_satellite-one in
-    absurd (turn_read put1059 _ _ l.k l.at l.i l.invariant.4 (omega arith) (read_refused s.result c.in_default.keys2) s.ensures.says)
+    absurd (turn_read put1059 _ _ l.k l.at l.i l.invariant.4 (omega arith) (read_refused s.result c.in_default.not-Records) s.ensures.says)
 
 pub loop-k-preserved : goal.loop-k-preserved
 loop-k-preserved c =

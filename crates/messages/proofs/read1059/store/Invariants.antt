@@ -1,15 +1,10 @@
 -- `messages::read1059::store` meets its contract. The satellites are stored one behind the other. Assumes nothing.
-use mathlib.Core.Path.{◌≡◌, refl, ap}
+use mathlib.Core.Path.{◌≡◌}
 use Prim.Native.Nat.{◌-◌, ◌≤◌}
-use native.Mathlib.Omega.{arith}
-use borrow.Author.Rules.{rules}
 use lib.ListN.{length}
 use Rattle.messages.specs.StepsRead.{many, lists1059, put1059}
 use Rattle.messages.specs.StepsRead1059.{satellite_at}
-use Rattle.messages.specs.Answers.{told_read}
-use Rattle.messages.proofs.ArmLaws.{read_refused}
-use Rattle.messages.proofs.PassLaws.{many_all}
-use Rattle.messages.proofs.StoreLaws.{Doing, begun, left_as, turn_suffices, turn_read, turn_stored, turns_done, put1059_none, put1059_on}
+use Rattle.messages.proofs.StoreLaws.{Doing}
 use Rattle.messages.proofs.read1059.store.Given as goal
 
 abbrev pub invariant-loop-k : goal.invariant-loop-k

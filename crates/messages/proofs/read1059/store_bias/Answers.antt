@@ -6,14 +6,13 @@ use Rattle.messages.proofs.ArmLaws.{not_refused, value_within}
 use Rattle.messages.proofs.I16Laws.{same_14}
 use Rattle.messages.proofs.PassLaws.{suffices_one}
 use Rattle.messages.proofs.Read1059Laws.{bias_within, bias_read, bias_stored}
-use borrow.Author.Rules.{rules}
 use Rattle.messages.proofs.read1059.store_bias.Goals as goal
 
 pub returns-in_default : goal.returns-in_default
 returns-in_default c =
     let r = c.requires in
     let u = c.read_unsigned-read in
-    absurd (not_refused _ _ 19 r.few (omega arith) (omega arith) (bias_within _ r.few _ _ r.suffices.is) u.result u.ensures c.in_default.keys2)
+    absurd (not_refused _ _ 19 r.few (omega arith) (omega arith) (bias_within _ r.few _ _ r.suffices.is) u.result u.ensures c.in_default.not-Value)
 
 pub bounds-satellites-i : goal.bounds-satellites-i
 bounds-satellites-i c =

@@ -6,14 +6,13 @@ use Rattle.messages.specs.StepsRead.{put1059}
 use Rattle.messages.proofs.ArmLaws.{not_refused, value_within}
 use Rattle.messages.proofs.PassLaws.{suffices_as, stored_as}
 use Rattle.messages.proofs.Read1059Laws.{satellite_within, satellite_look}
-use borrow.Author.Rules.{rules}
 use Rattle.messages.proofs.read1059.store_satellite.Goals as goal
 
 pub returns-in_default : goal.returns-in_default
 returns-in_default c =
     let r = c.requires in
     let u = c.read_unsigned-read in
-    absurd (not_refused _ _ 11 r.few (omega arith) (omega arith) (satellite_within _ r.few _ r.suffices.is) u.result u.ensures c.in_default.keys2)
+    absurd (not_refused _ _ 11 r.few (omega arith) (omega arith) (satellite_within _ r.few _ r.suffices.is) u.result u.ensures c.in_default.not-Value)
 
 pub overflow_cast-both : goal.overflow_cast-both
 overflow_cast-both c =

@@ -1,5 +1,4 @@
 -- `messages::read1230::mask_at` meets its contract. The mask lies within one byte, or within two. Assumes nothing.
-use borrow.Author.Rules.{rules}
 use Rattle.messages.proofs.Read1230Laws.{mask_in_one, mask_in_two}
 use Rattle.messages.proofs.read1230.mask_at.Goals as goal
 

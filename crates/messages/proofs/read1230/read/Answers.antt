@@ -8,7 +8,6 @@ use Rattle.messages.specs.StepsRead.{put1230}
 use Rattle.messages.proofs.ArmLaws.{is_short}
 use Rattle.messages.proofs.CallLaws.{has_room, refuses, lacks_room, reads}
 use Rattle.messages.proofs.Read1230Laws.{too_long, uneven, mask_cut, mask_read, biases_fit, no_bias, mask_there, outcome_of, call1230}
-use borrow.Author.Rules.{rules}
 use Rattle.messages.proofs.read1230.read.Goals as goal
 
 pub returns-then-bytes-gt1023 : goal.returns-then-bytes-gt1023

@@ -1,7 +1,6 @@
 -- All of the field is missing, or what lies behind the data. Assumes nothing.
 use mathlib.Core.Path.{sym, ap}
 use native.Mathlib.Omega.{arith}
-use borrow.Author.Rules.{rules}
 use Rattle.bits.specs.Told.{short}
 use Rattle.bits.proofs.ReadLaws.{missing_all, missing_some}
 use Rattle.messages.specs.Records.{Counted}

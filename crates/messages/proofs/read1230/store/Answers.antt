@@ -1,15 +1,11 @@
 -- `messages::read1230::store` meets its contract. The signals of the mask are passed one by one, and the biases of those whose bit is set are stored. Assumes nothing.
-use mathlib.Core.Path.{◌≡◌, refl, ap}
-use Prim.Native.Nat.{◌-◌, ◌≤◌}
+use mathlib.Core.Path.{refl, ap}
 use native.Mathlib.Omega.{arith}
-use borrow.Author.Rules.{rules}
-use lib.ListN.{length, drop}
-use Rattle.messages.specs.Layout1230.{mask_signals, masked}
-use Rattle.messages.specs.StepsRead1230.{biases_at}
-use Rattle.messages.specs.StepsRead.{lists1230, put1230}
+use Rattle.messages.specs.Layout1230.{mask_signals}
+use Rattle.messages.specs.StepsRead.{put1230}
 use Rattle.messages.specs.Answers.{told_read}
 use Rattle.messages.proofs.ArmLaws.{read_refused}
-use Rattle.messages.proofs.StoreLaws.{Doing, begun, left_as, done, put1230_none}
+use Rattle.messages.proofs.StoreLaws.{begun, left_as, done, put1230_none}
 use Rattle.messages.proofs.Read1230Laws.{masked_lacks, masked_none, signal_suffices, signal_read, signal_stored}
 use Rattle.messages.proofs.read1230.store.Goals as goal
 
@@ -37,7 +33,7 @@ pub returns-in_default : goal.returns-in_default
 returns-in_default c =
     let l = c.loop-k in
     let s = c.store_bias-one in
-    absurd (signal_read _ mask_signals l.k _ l.at refl (omega arith) c.if-mask-k-eq0.false l.i l.invariant.3 (read_refused s.result c.in_default.keys2) s.ensures.says)
+    absurd (signal_read _ mask_signals l.k _ l.at refl (omega arith) c.if-mask-k-eq0.false l.i l.invariant.3 (read_refused s.result c.in_default.not-Records) s.ensures.says)
 
 pub loop-k-preserved : goal.loop-k-preserved
 loop-k-preserved c =

@@ -1,16 +1,11 @@
 -- `messages::read1230::store` meets its contract. The signals of the mask are passed one by one, and the biases of those whose bit is set are stored. Assumes nothing.
-use mathlib.Core.Path.{◌≡◌, refl, ap}
+use mathlib.Core.Path.{◌≡◌}
 use Prim.Native.Nat.{◌-◌, ◌≤◌}
-use native.Mathlib.Omega.{arith}
-use borrow.Author.Rules.{rules}
 use lib.ListN.{length, drop}
 use Rattle.messages.specs.Layout1230.{mask_signals, masked}
 use Rattle.messages.specs.StepsRead1230.{biases_at}
 use Rattle.messages.specs.StepsRead.{lists1230, put1230}
-use Rattle.messages.specs.Answers.{told_read}
-use Rattle.messages.proofs.ArmLaws.{read_refused}
-use Rattle.messages.proofs.StoreLaws.{Doing, begun, left_as, done, put1230_none}
-use Rattle.messages.proofs.Read1230Laws.{masked_lacks, masked_none, signal_suffices, signal_read, signal_stored}
+use Rattle.messages.proofs.StoreLaws.{Doing}
 use Rattle.messages.proofs.read1230.store.Given as goal
 
 abbrev pub invariant-loop-k : goal.invariant-loop-k

@@ -8,13 +8,12 @@ use Rattle.messages.proofs.I16Laws.{bias_narrow}
 use Rattle.messages.proofs.PassLaws.{suffices_one, stored_short}
 use Rattle.messages.proofs.StoreLaws.{put1230_none}
 use Rattle.messages.proofs.Read1230Laws.{bias_cut, bias_read, bias_stored}
-use borrow.Author.Rules.{rules}
 use Rattle.messages.proofs.read1230.store_bias.Goals as goal
 
 pub returns-in_default : goal.returns-in_default
 returns-in_default c =
     let r = c.read_twos-read in
-    let k = twos_cut _ _ 16 c.requires.few (omega arith) (omega arith) r.result r.ensures c.in_default.keys2 c.unread_signed.ensures in
+    let k = twos_cut _ _ 16 c.requires.few (omega arith) (omega arith) r.result r.ensures c.in_default.not-Value c.unread_signed.ensures in
     stored_short put1230 (bias_cut _ _ _ k.0) k.1 (put1230_none _ _)
 
 pub bounds-signals-i : goal.bounds-signals-i

@@ -1,5 +1,4 @@
 -- The columns of bds are its table, line by line. Assumes nothing.
-use borrow.Author.Rules.{rules}
 use Rattle.messages.specs.Signals.{bds}
 use Rattle.messages.specs.StepsColumns.{entries}
 use Rattle.messages.proofs.signals.bds.Goals as goal

@@ -3,7 +3,6 @@ use mathlib.Core.Path.{◌∙◌, sym, ap}
 use Rattle.messages.specs.Signals.{table_of}
 use Rattle.messages.specs.Answers.{found_number}
 use Rattle.messages.proofs.OrderLaws.{both_assigned, first_assigned, second_assigned, none_assigned}
-use borrow.Author.Rules.{rules}
 use Rattle.messages.proofs.signals.compare.Goals as goal
 
 pub returns-in-At-b : goal.returns-in-At-b

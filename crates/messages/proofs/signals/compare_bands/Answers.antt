@@ -1,6 +1,5 @@
 -- `messages::signals::compare_bands` meets its contract: each answer is its case of the definition. Assumes nothing.
 use mathlib.Core.Path.{◌∙◌, sym}
-use borrow.Author.Rules.{rules}
 use Rattle.messages.proofs.OrderLaws.{same_band, other_band}
 use Rattle.messages.proofs.signals.compare_bands.Goals as goal
 

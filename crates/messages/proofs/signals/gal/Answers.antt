@@ -1,5 +1,4 @@
 -- The columns of gal are its table, line by line. Assumes nothing.
-use borrow.Author.Rules.{rules}
 use Rattle.messages.specs.Signals.{gal}
 use Rattle.messages.specs.StepsColumns.{entries}
 use Rattle.messages.proofs.signals.gal.Goals as goal

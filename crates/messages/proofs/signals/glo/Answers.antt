@@ -1,5 +1,4 @@
 -- The columns of glo are its table, line by line. Assumes nothing.
-use borrow.Author.Rules.{rules}
 use Rattle.messages.specs.Signals.{glo}
 use Rattle.messages.specs.StepsColumns.{entries}
 use Rattle.messages.proofs.signals.glo.Goals as goal

@@ -1,5 +1,4 @@
 -- The columns of gps are its table, line by line. Assumes nothing.
-use borrow.Author.Rules.{rules}
 use Rattle.messages.specs.Signals.{gps}
 use Rattle.messages.specs.StepsColumns.{entries}
 use Rattle.messages.proofs.signals.gps.Goals as goal

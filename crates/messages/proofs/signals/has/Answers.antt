@@ -1,5 +1,4 @@
 -- `messages::signals::has` meets its contract: a number by one test, a signal by another. Assumes nothing.
-use borrow.Author.Rules.{rules}
 use Rattle.messages.specs.StepsColumns.{has}
 use Rattle.messages.proofs.signals.has.Goals as goal
 

@@ -1,12 +1,9 @@
 -- `messages::signals::line_in` meets its contract. The loop's invariant: the lines from `i` on answer as the whole table.
 -- The measure is the lines that are left. Assumes nothing.
-use mathlib.Core.Path.{◌≡◌, ◌∙◌, sym}
-use Prim.Native.Nat.{◌≤◌, ◌-◌}
+use mathlib.Core.Path.{◌∙◌, sym}
 use native.Mathlib.Omega.{arith}
 use borrow.Author.Rules.{rules}
-use lib.ListN.{length}
-use Rattle.messages.specs.StepsColumns.{entries, line_of}
-use Rattle.messages.proofs.ColumnLaws.{from, from_start, line_found, line_on, no_line}
+use Rattle.messages.proofs.ColumnLaws.{from_start, line_found, line_on, no_line}
 use Rattle.messages.proofs.signals.line_in.Goals as goal
 
 pub loop-i-init : goal.loop-i-init

@@ -1,12 +1,10 @@
 -- `messages::signals::line_in` meets its contract. The loop's invariant: the lines from `i` on answer as the whole table.
 -- The measure is the lines that are left. Assumes nothing.
-use mathlib.Core.Path.{◌≡◌, ◌∙◌, sym}
+use mathlib.Core.Path.{◌≡◌}
 use Prim.Native.Nat.{◌≤◌, ◌-◌}
-use native.Mathlib.Omega.{arith}
-use borrow.Author.Rules.{rules}
 use lib.ListN.{length}
 use Rattle.messages.specs.StepsColumns.{entries, line_of}
-use Rattle.messages.proofs.ColumnLaws.{from, from_start, line_found, line_on, no_line}
+use Rattle.messages.proofs.ColumnLaws.{from}
 use Rattle.messages.proofs.signals.line_in.Given as goal
 
 abbrev pub invariant-loop-i : goal.invariant-loop-i

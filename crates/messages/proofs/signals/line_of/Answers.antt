@@ -1,5 +1,4 @@
 -- Each system has its own table, and any other number none. Assumes nothing.
-use borrow.Author.Rules.{rules}
 use Rattle.messages.specs.Signals.{table_of}
 use Rattle.messages.specs.StepsColumns.{line_of}
 use Rattle.messages.proofs.ColumnLaws.{no_table}
@@ -36,5 +35,4 @@ returns-in-6 c = rw c.in-6.is c.navic.ensures
 pub returns-in_default : goal.returns-in_default
 unfolding line_of
 returns-in_default c =
-    let r = assumption in
-    rw (no_table c.args.system r.0.0.0.0.0.0.1 r.0.0.0.0.0.1 r.0.0.0.0.1 r.0.0.0.1 r.0.0.1 r.0.1 r.1)
+    rw (no_table c.args.system (assumption) (assumption) (assumption) (assumption) (assumption) (assumption) (assumption))

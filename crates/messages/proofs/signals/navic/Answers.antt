@@ -1,5 +1,4 @@
 -- The columns of navic are its table, line by line. Assumes nothing.
-use borrow.Author.Rules.{rules}
 use Rattle.messages.specs.Signals.{navic}
 use Rattle.messages.specs.StepsColumns.{entries}
 use Rattle.messages.proofs.signals.navic.Goals as goal

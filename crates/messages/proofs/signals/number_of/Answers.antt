@@ -1,6 +1,5 @@
 -- `messages::signals::number_of` meets its contract: the line that has the signal tells its number. Assumes nothing.
 use mathlib.Core.Path.{◌∙◌, sym, ap}
-use borrow.Author.Rules.{rules}
 use Rattle.messages.specs.StepsColumns.{found_line, number_at}
 use Rattle.messages.specs.declared.signals.Line.{Line}
 use Rattle.messages.proofs.ColumnLaws.{number_by_line}

@@ -1,5 +1,4 @@
 -- The columns of qzss are its table, line by line. Assumes nothing.
-use borrow.Author.Rules.{rules}
 use Rattle.messages.specs.Signals.{qzss}
 use Rattle.messages.specs.StepsColumns.{entries}
 use Rattle.messages.proofs.signals.qzss.Goals as goal

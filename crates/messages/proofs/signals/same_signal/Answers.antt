@@ -1,6 +1,5 @@
 -- `messages::signals::same_signal` meets its contract: one test after the other. Assumes nothing.
 use mathlib.Core.Path.{◌∙◌, sym}
-use borrow.Author.Rules.{rules}
 use borrow.Author.Tests.{eq-eqb, ne_eqb}
 use Rattle.messages.proofs.signals.same_signal.Goals as goal
 

@@ -1,5 +1,4 @@
 -- The columns of sbas are its table, line by line. Assumes nothing.
-use borrow.Author.Rules.{rules}
 use Rattle.messages.specs.Signals.{sbas}
 use Rattle.messages.specs.StepsColumns.{entries}
 use Rattle.messages.proofs.signals.sbas.Goals as goal

@@ -1,6 +1,5 @@
 -- `messages::signals::signal_at` meets its contract: a line has its own band and letter. Assumes nothing.
 use mathlib.Core.Path.{ap, sym}
-use borrow.Author.Rules.{rules}
 use Rattle.messages.specs.StepsColumns.{found_line, signal_at}
 use Rattle.messages.specs.declared.signals.Line.{Line}
 use Rattle.messages.proofs.signals.signal_at.Goals as goal

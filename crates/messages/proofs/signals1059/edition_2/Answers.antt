@@ -1,5 +1,4 @@
 -- The columns of edition 2 are its table, line by line. Assumes nothing.
-use borrow.Author.Rules.{rules}
 use Rattle.messages.specs.Signals1059.{edition2, signals1059}
 use Rattle.messages.specs.StepsColumns.{entries}
 use Rattle.messages.proofs.signals1059.edition_2.Goals as goal

@@ -1,5 +1,4 @@
 -- `messages::signals1059::in_mask` meets its contract. Assumes nothing.
-use borrow.Author.Rules.{rules}
 use borrow.Author.Tests.{lt-ltb, le-ltb}
 use native.Mathlib.Omega.{arith}
 use Rattle.messages.specs.StepsColumns.{in_mask}

@@ -1,5 +1,4 @@
 -- Each edition has its own table, and any other number none. Assumes nothing.
-use borrow.Author.Rules.{rules}
 use Rattle.messages.specs.StepsColumns.{line_of}
 use Rattle.messages.proofs.ColumnLaws.{no_edition}
 use Rattle.messages.proofs.signals1059.line_of_1059.Goals as goal
@@ -12,4 +11,4 @@ returns-in-2 c = rw c.in-2.is c.edition_2.ensures
 
 pub returns-in_default : goal.returns-in_default
 unfolding line_of
-returns-in_default c = rw (no_edition c.args.edition assumption assumption)
+returns-in_default c = rw (no_edition c.args.edition (assumption) (assumption))

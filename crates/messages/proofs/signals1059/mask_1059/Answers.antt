@@ -14,4 +14,4 @@ returns-in-2 c = rw c.in-2.is
 
 pub returns-in_default : goal.returns-in_default
 unfolding mask_of
-returns-in_default c = rw (no_edition c.args.edition assumption assumption)
+returns-in_default c = rw (no_edition c.args.edition (assumption) (assumption))

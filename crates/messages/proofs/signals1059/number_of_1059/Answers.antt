@@ -1,7 +1,5 @@
 -- `messages::signals1059::number_of_1059` meets its contract: the line of the edition's table that has what is wanted tells the answer. Assumes nothing.
 use mathlib.Core.Path.{◌∙◌, sym, ap}
-use borrow.Author.Rules.{rules}
-use borrow.Author.Tests.{not-true, not-false}
 use Rattle.bits.specs.Told.{Accepted}
 use Rattle.messages.specs.StepsColumns.{found_line, number_at}
 use Rattle.messages.specs.declared.signals.Line.{Line}

@@ -1,7 +1,6 @@
 -- `messages::signals1059::with_number` meets its contract: the bit of the number is set, and no other changes. Assumes nothing.
 use mathlib.Core.Path.{ap, ◌∙◌}
 use Prim.Native.Nat.{ℕ, ◌^◌}
-use borrow.Author.Rules.{rules}
 use native.Mathlib.Nat.{one-mul}
 use native.Mathlib.Omega.{arith}
 use lib.Bits.{bit_or}

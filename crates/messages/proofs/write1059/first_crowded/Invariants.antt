@@ -1,11 +1,7 @@
 -- `messages::write1059::first_crowded` meets its contract. The loop's invariant: no count before `a` is over 31. Assumes nothing.
-use mathlib.Core.Path.{◌≡◌, refl, sym, ◌∙◌}
+use mathlib.Core.Path.{◌≡◌}
 use Prim.Native.Nat.{◌-◌, ◌≤◌}
-use native.Mathlib.Omega.{arith}
 use lib.ListN.{drop}
-use borrow.Author.Rules.{rules}
-use borrow.Author.Tests.{lt-ltb, le-ltb}
-use Rattle.messages.proofs.CrowdLaws.{over_here, not_here, not_over}
 use Rattle.messages.specs.StepsWrite1059.{crowded_in}
 use Rattle.messages.proofs.write1059.first_crowded.Given as goal
 

@@ -1,18 +1,11 @@
 -- `messages::write1059::first_fault` meets its contract. The loop's invariant: no record before `i` has a fault. Assumes nothing.
-use mathlib.Core.Path.{◌≡◌, refl, sym, ap, ◌∙◌}
+use mathlib.Core.Path.{◌≡◌}
 use Prim.Native.Nat.{◌-◌, ◌≤◌}
-use native.Mathlib.Omega.{arith}
-use lib.ListN.{length, get_or}
-use lib.IntN.{pos}
-use borrow.Author.Rules.{rules}
-use borrow.Author.Tests.{not-true, not-false}
-use Rattle.bits.specs.Signed.{fits_twos}
+use lib.ListN.{length}
 use Rattle.formats.specs.Written.{first_fault}
 use Rattle.messages.specs.Records.{records1059}
 use Rattle.messages.specs.StepsWrite1059.{fault_by}
-use Rattle.messages.proofs.I16Laws.{same_16}
 use Rattle.messages.proofs.RecordLaws.{from1059}
-use Rattle.messages.proofs.FaultLaws.{is_satellite, is_signal_lem, is_range, is_fine, no_more}
 use Rattle.messages.proofs.write1059.first_fault.Given as goal
 
 abbrev pub invariant-loop-i : goal.invariant-loop-i

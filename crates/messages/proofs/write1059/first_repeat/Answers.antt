@@ -1,12 +1,9 @@
 -- `messages::write1059::first_repeat` meets its contract. The loop's invariant: before `i` nothing repeats, and the words tell the satellites and signals there. Assumes nothing.
-use mathlib.Core.Path.{◌≡◌, refl, sym, ◌∙◌}
-use mathlib.Core.List.{List}
-use Prim.Native.Nat.{◌-◌, ◌≤◌}
+use mathlib.Core.Path.{refl, sym, ◌∙◌}
 use native.Mathlib.Omega.{arith}
 use borrow.Author.Tests.{lt-ltb, le-ltb}
-use lib.ListN.{length, get_or, length-set}
-use lib.IntN.{ℤ}
-use Rattle.messages.proofs.PairLaws.{Looked, looked_none, looked_here, looked_on, looked_end}
+use lib.ListN.{get_or, length-set}
+use Rattle.messages.proofs.PairLaws.{looked_none, looked_here, looked_on, looked_end}
 use Rattle.messages.proofs.write1059.first_repeat.Goals as goal
 
 pub loop-i-init : goal.loop-i-init

@@ -1,12 +1,10 @@
 -- `messages::write1059::first_repeat` meets its contract. The loop's invariant: before `i` nothing repeats, and the words tell the satellites and signals there. Assumes nothing.
-use mathlib.Core.Path.{◌≡◌, refl, sym, ◌∙◌}
+use mathlib.Core.Path.{◌≡◌}
 use mathlib.Core.List.{List}
 use Prim.Native.Nat.{◌-◌, ◌≤◌}
-use native.Mathlib.Omega.{arith}
-use borrow.Author.Tests.{lt-ltb, le-ltb}
-use lib.ListN.{length, get_or, length-set}
+use lib.ListN.{length}
 use lib.IntN.{ℤ}
-use Rattle.messages.proofs.PairLaws.{Looked, looked_none, looked_here, looked_on, looked_end}
+use Rattle.messages.proofs.PairLaws.{Looked}
 use Rattle.messages.proofs.write1059.first_repeat.Given as goal
 
 abbrev pub invariant-loop-i : goal.invariant-loop-i

@@ -1,9 +1,8 @@
 -- `messages::write1059::link` meets its contract. The loop's invariant: the places from `i` on are linked. Assumes nothing.
 use mathlib.Core.Path.{◌≡◌, refl, sym, subst}
-use Prim.Native.Nat.{suc, ◌-◌, ◌≤◌, ◌<◌}
+use Prim.Native.Nat.{suc, ◌-◌, ◌<◌}
 use native.Mathlib.Omega.{arith}
 use lib.ListN.{length, get_or}
-use borrow.Author.Rules.{rules}
 use Rattle.messages.specs.StepsWrite1059.{Linked}
 use Rattle.messages.proofs.LinkLaws.{count_from, linked_more}
 use Rattle.messages.proofs.write1059.link.Goals as goal

@@ -1,11 +1,7 @@
 -- `messages::write1059::link` meets its contract. The loop's invariant: the places from `i` on are linked. Assumes nothing.
-use mathlib.Core.Path.{◌≡◌, refl, sym, subst}
-use Prim.Native.Nat.{suc, ◌-◌, ◌≤◌, ◌<◌}
-use native.Mathlib.Omega.{arith}
-use lib.ListN.{length, get_or}
-use borrow.Author.Rules.{rules}
+use Prim.Native.Nat.{◌≤◌}
+use lib.ListN.{length}
 use Rattle.messages.specs.StepsWrite1059.{Linked}
-use Rattle.messages.proofs.LinkLaws.{count_from, linked_more}
 use Rattle.messages.proofs.write1059.link.Given as goal
 
 abbrev pub invariant-loop-i : goal.invariant-loop-i

@@ -1,10 +1,7 @@
 -- `messages::write1059::present` meets its contract. The loop's invariant: `m` counts the satellites before `a`. Assumes nothing.
 use mathlib.Core.Path.{◌≡◌}
 use Prim.Native.Nat.{◌+◌, ◌-◌, ◌≤◌}
-use native.Mathlib.Omega.{arith}
 use lib.ListN.{drop}
-use borrow.Author.Rules.{rules}
-use Rattle.messages.proofs.CrowdLaws.{present_here, present_none}
 use Rattle.messages.specs.StepsWrite1059.{present_in}
 use Rattle.messages.proofs.write1059.present.Given as goal
 

@@ -1,7 +1,7 @@
 -- `messages::write1059::put_satellite` meets its contract. The loop's invariant: the satellite stands at `i`, and what is left to put are its biases from there on. Assumes nothing.
 use mathlib.Core.Path.{◌≡◌, sym, ap, ◌∙◌}
-use mathlib.Core.List.{List, [], ◌∷◌, ◌++◌}
-use Prim.Native.Nat.{ℕ, suc, ◌-◌, ◌≤◌, ◌<◌}
+use mathlib.Core.List.{List, [], ◌∷◌}
+use Prim.Native.Nat.{ℕ, suc, ◌≤◌, ◌<◌}
 use native.Mathlib.Omega.{arith}
 use lib.ListN.{length, get_or}
 use lib.IntN.{pos}
@@ -16,57 +16,54 @@ use Rattle.messages.proofs.PenLaws.{length_drawn}
 use Rattle.formats.proofs.PutLaws.{Left, left_all, left_as, left_on, left_fits, left_put, left_none, is_put_none}
 use Rattle.messages.proofs.RecordLaws.{from1059}
 use Rattle.messages.proofs.LinkLaws.{next_bounds, link_next, satellite_none, satellite_left, next_stands, next_records, bias_here, bias_none}
-use borrow.Author.Rules.{rules}
 use Rattle.messages.proofs.write1059.put_satellite.Goals as goal
+use Rattle.messages.proofs.write1059.put_satellite.Goals.{At-loop-i}
 
--- the fields of the satellite, in two parts
-abbrev numbers : tie.Start invariant-loop decreases-loop → List Field
-numbers s = bits 6 s.args.a ∷ bits 5 s.args.count ∷ []
-
-abbrev listed : tie.Start invariant-loop decreases-loop → List Field
-listed s = bias_fields (of_satellite s.args.a (records1059 s.args.satellites.now s.args.signals.now s.args.biases.now))
-
-abbrev whole : tie.Start invariant-loop decreases-loop → List Field
-whole s = satellite_fields s.args.a (of_satellite s.args.a (records1059 s.args.satellites.now s.args.signals.now s.args.biases.now))
-
--- the data with what the pen holds
-abbrev entry : tie.Start invariant-loop decreases-loop → List ℕ
-entry s = drawn s.args.bytes.now s.args.first.at s.args.first.bits
-
-begun : (s : tie.Start invariant-loop decreases-loop) → (s.args.count ≡ 0 → ⊥) → Left (entry s) s.args.first.at (whole s) (entry s) s.args.first.at (numbers s ++ listed s)
-begun s n = satellite_left s.args.satellites.now s.args.signals.now s.args.biases.now s.requires.1.signals s.requires.1.biases s.args.a s.args.count s.requires.4 n (entry s) s.args.first.at
-
-abbrev start : tie.At-loop invariant-loop decreases-loop → tie.Start invariant-loop decreases-loop
-start c = c.before.before.before.before.before.before.before.before.before
+-- the fields of the satellite's number and of its bias count
+abbrev numbers : ℕ → ℕ → List Field
+numbers a count = bits 6 a ∷ bits 5 count ∷ []
 
 -- what is left at the loop
-left : (c : tie.At-loop invariant-loop decreases-loop)
-    → Left (entry (start c)) (start c).args.first.at (whole (start c)) (drawn c.loop.bytes c.loop.pen.at c.loop.pen.bits) c.loop.pen.at
-    (bias_fields (of_satellite (start c).args.a (from1059 (start c).args.satellites.now (start c).args.signals.now (start c).args.biases.now c.loop.i)))
+left : (c : At-loop-i)
+    → Left (drawn c.args.bytes.now c.args.first.at c.args.first.bits) c.args.first.at
+    (satellite_fields c.args.a (of_satellite c.args.a (records1059 c.args.satellites.now c.args.signals.now c.args.biases.now)))
+    (drawn c.loop-i.bytes c.loop-i.pen.at c.loop-i.pen.bits) c.loop-i.pen.at
+    (bias_fields (of_satellite c.args.a (from1059 c.args.satellites.now c.args.signals.now c.args.biases.now c.loop-i.i)))
 left c =
+    let a = c.args in
+    let d = c.requires.1 in
     left_on
-    (left_put (numbers (start c)) (listed (start c)) (begun (start c) c.before.before.before.before.before.if1.false) c.before.before.before.two.ensures)
-    c.loop.invariant.2
+    (left_put (numbers a.a a.count) (bias_fields (of_satellite a.a (records1059 a.satellites.now a.signals.now a.biases.now)))
+    (satellite_left a.satellites.now a.signals.now a.biases.now d.signals d.biases a.a a.count c.requires.4 c.if-count-eq0.false (drawn a.bytes.now a.first.at a.first.bits) a.first.at)
+    c.two-pen.ensures)
+    c.loop-i.invariant.2
 
 -- where the link leads
-linked : (c : tie.At-loop invariant-loop decreases-loop) → c.loop.i < length (start c).args.satellites.now
-    → (c.loop.i < get_or (start c).args.links.now c.loop.i 0)
-    × (get_or (start c).args.links.now c.loop.i 0 ≤ length (start c).args.satellites.now)
-    × (get_or (start c).args.links.now c.loop.i 0 ≡ next_of (start c).args.satellites.now (start c).args.a (suc c.loop.i))
+linked : (c : At-loop-i) → c.loop-i.i < length c.args.satellites.now
+    → (c.loop-i.i < get_or c.args.links.now c.loop-i.i 0)
+    × (get_or c.args.links.now c.loop-i.i 0 ≤ length c.args.satellites.now)
+    × (get_or c.args.links.now c.loop-i.i 0 ≡ next_of c.args.satellites.now c.args.a (suc c.loop-i.i))
 linked c h =
-    let s = start c in
-    let e = link_next s.args.satellites.now s.args.links.now s.pre.2 s.args.a c.loop.i h c.loop.invariant.1 in
-    let b = next_bounds s.args.satellites.now s.args.a (suc c.loop.i) h in
+    let e = link_next c.args.satellites.now c.args.links.now c.requires.2 c.args.a c.loop-i.i h c.loop-i.invariant.1 in
+    let b = next_bounds c.args.satellites.now c.args.a (suc c.loop-i.i) h in
     (omega (arith, e, b.0), omega (arith, e, b.1), e)
 
 pub returns-then-count-eq0 : goal.returns-then-count-eq0
 returns-then-count-eq0 c =
-    is_put_none (entry c) c.args.first.at
+    is_put_none (drawn c.args.bytes.now c.args.first.at c.args.first.bits) c.args.first.at
     (satellite_none c.args.satellites.now c.args.signals.now c.args.biases.now c.requires.1.signals c.requires.1.biases c.args.a c.args.count c.requires.4 c.if-count-eq0.true)
 
 pub two-pen-requires : goal.two-pen-requires
 two-pen-requires c =
-    (left_fits (numbers c) (listed c) (begun c c.if-count-eq0.false) c.requires.0, omega arith, c.requires.3, c.requires.5)
+    let a = c.args in
+    let d = c.requires.1 in (
+      left_fits (numbers a.a a.count) _
+          (satellite_left a.satellites.now a.signals.now a.biases.now d.signals d.biases a.a a.count c.requires.4 c.if-count-eq0.false (drawn a.bytes.now a.first.at a.first.bits) a.first.at)
+          c.requires.0,
+      omega arith,
+      c.requires.3,
+      c.requires.5,
+    )
 
 pub loop-i-init : goal.loop-i-init
 loop-i-init c =
@@ -80,7 +77,7 @@ loop-i-init c =
     )
 
 pub overflow_cast-signals : goal.overflow_cast-signals
-overflow_cast-signals c = omega (arith, (start c).pre.1.short c.loop-i.i c.loop-i-test.true)
+overflow_cast-signals c = omega (arith, c.requires.1.short c.loop-i.i c.loop-i-test.true)
 
 pub bits_of-requires : goal.bits_of-requires
 bits_of-requires c =
@@ -97,7 +94,7 @@ two-pen-requires-in-loop-i c =
     let e = c.bits_of.ensures.0 ∙ ap (twos_bits 14) (same_16 z c.bits_of-arg-1.given) in
     rw e (
       left_fits (bits 5 (get_or c.args.signals.now l.i 0) ∷ bits 14 (twos_bits 14 z) ∷ []) _
-          (left_as (bias_here c.args.satellites.now c.args.signals.now c.args.biases.now d.signals d.biases c.args.a l.i h l.invariant.1) (left c))
+          (left_as (bias_here c.args.satellites.now c.args.signals.now c.args.biases.now d.signals d.biases c.args.a l.i h l.invariant.1) (left (goal.at.two-pen-requires-in-loop-i c).At-loop-i))
           c.requires.0,
       omega arith,
       d.short l.i h,
@@ -112,12 +109,12 @@ bounds-links-i c = omega arith
 
 pub overflow_cast-i-in-loop-i : goal.overflow_cast-i-in-loop-i
 overflow_cast-i-in-loop-i c =
-    let e = linked c c.loop-i-test.true in
+    let e = linked (goal.at.overflow_cast-i-in-loop-i c).At-loop-i c.loop-i-test.true in
     omega (arith, e.0, e.1)
 
 pub loop-i-smaller : goal.loop-i-smaller
 loop-i-smaller c =
-    let e = linked c c.loop-i-test.true in
+    let e = linked (goal.at.loop-i-smaller c).At-loop-i c.loop-i-test.true in
     omega (arith, e.0, e.1)
 
 pub loop-i-preserved : goal.loop-i-preserved
@@ -127,7 +124,7 @@ loop-i-preserved c =
     let d = c.requires.1 in
     let h = c.loop-i-test.true in
     let z = get_or c.args.biases.now l.i (pos 0) in
-    let e = linked c h in
+    let e = linked (goal.at.loop-i-preserved c).At-loop-i h in
     let put = rw (c.bits_of.ensures.0 ∙ ap (twos_bits 14) (same_16 z c.bits_of-arg-1.given)) at c.two-pen-in-loop-i.ensures in (
       e.1,
       rw e.2 (next_stands sats c.args.signals.now c.args.biases.now d.signals d.biases c.args.a (suc l.i) h),
@@ -138,13 +135,11 @@ loop-i-preserved c =
 
 pub shape_of-bytes : goal.shape_of-bytes
 shape_of-bytes c =
-    let s = start c in
     sym (length_drawn c.loop-i.bytes c.loop-i.pen.at c.loop-i.pen.bits)
-    ∙ (left c).same
-    ∙ length_drawn s.args.bytes.now s.args.first.at s.args.first.bits
+    ∙ (left (goal.at.shape_of-bytes c).At-loop-i).same
+    ∙ length_drawn c.args.bytes.now c.args.first.at c.args.first.bits
 
 pub returns : goal.returns
 returns c =
-    let s = start c in
-    let d = s.pre.1 in
-    left_none (left_as (bias_none s.args.satellites.now s.args.signals.now s.args.biases.now d.signals d.biases s.args.a c.loop-i.i c.loop-i-test.false) (left c))
+    let d = c.requires.1 in
+    left_none (left_as (bias_none c.args.satellites.now c.args.signals.now c.args.biases.now d.signals d.biases c.args.a c.loop-i.i c.loop-i-test.false) (left (goal.at.returns c).At-loop-i))

@@ -1,22 +1,13 @@
 -- `messages::write1059::put_satellite` meets its contract. The loop's invariant: the satellite stands at `i`, and what is left to put are its biases from there on. Assumes nothing.
-use mathlib.Core.Path.{◌≡◌, sym, ap, ◌∙◌}
-use mathlib.Core.List.{List, [], ◌∷◌, ◌++◌}
-use Prim.Native.Nat.{ℕ, suc, ◌-◌, ◌≤◌, ◌<◌}
-use native.Mathlib.Omega.{arith}
+use mathlib.Core.Path.{◌≡◌}
+use Prim.Native.Nat.{◌-◌, ◌≤◌}
 use lib.ListN.{length, get_or}
-use lib.IntN.{pos}
-use Rattle.bits.specs.Signed.{twos_bits}
-use Rattle.bits.specs.Fields.{Field, bits}
 use Rattle.messages.specs.Records.{records1059}
 use Rattle.messages.specs.Layout1059.{of_satellite}
 use Rattle.messages.specs.StepsPen.{drawn}
-use Rattle.messages.specs.StepsWrite1059.{bias_fields, satellite_fields, next_of}
-use Rattle.messages.proofs.I16Laws.{same_16}
-use Rattle.messages.proofs.PenLaws.{length_drawn}
-use Rattle.formats.proofs.PutLaws.{Left, left_all, left_as, left_on, left_fits, left_put, left_none, is_put_none}
+use Rattle.messages.specs.StepsWrite1059.{bias_fields}
+use Rattle.formats.proofs.PutLaws.{Left}
 use Rattle.messages.proofs.RecordLaws.{from1059}
-use Rattle.messages.proofs.LinkLaws.{next_bounds, link_next, satellite_none, satellite_left, next_stands, next_records, bias_here, bias_none}
-use borrow.Author.Rules.{rules}
 use Rattle.messages.proofs.write1059.put_satellite.Given as goal
 
 abbrev pub invariant-loop-i : goal.invariant-loop-i

@@ -1,30 +1,28 @@
 -- `messages::write1059::put_satellites` meets its contract. The loop's invariant: what is left to put are the satellites from `a` on. Assumes nothing.
 use mathlib.Core.Path.{ap, ◌∙◌}
 use mathlib.Core.List.{List}
-use Prim.Native.Nat.{ℕ, ◌-◌, ◌≤◌}
+use Prim.Native.Nat.{ℕ}
 use native.Mathlib.Omega.{arith}
 use lib.ListN.{length}
+use lib.IntN.{ℤ}
 use Rattle.bits.specs.Fields.{Field}
-use Rattle.messages.specs.Records.{Rec1059, records1059}
+use Rattle.messages.specs.Records.{records1059}
 use Rattle.messages.specs.Layout1059.{of_satellite}
-use Rattle.messages.specs.StepsPen.{drawn}
-use Rattle.messages.specs.StepsWrite1059.{satellite_fields, satellites_from}
-use Rattle.formats.proofs.PutLaws.{Left, left_all, left_as, left_fits, left_fits_all, left_put, left_none}
+use Rattle.messages.specs.StepsWrite1059.{satellite_fields}
+use Rattle.formats.proofs.PutLaws.{left_all, left_as, left_fits, left_fits_all, left_put, left_none}
 use Rattle.messages.proofs.Fields1059Laws.{satellites_next, satellites_none}
 use Rattle.messages.proofs.PenLaws.{length_drawn}
 use Rattle.messages.proofs.write1059.put_satellites.Goals as goal
 
-abbrev all : tie.Start invariant-loop decreases-loop → List Rec1059
-all s = records1059 s.args.satellites.now s.args.signals.now s.args.biases.now
-
-abbrev one : tie.Start invariant-loop decreases-loop → ℕ → List Field
-one s a = satellite_fields a (of_satellite a (all s))
+-- the fields of satellite a, of records with these columns
+abbrev one : List ℕ → List ℕ → List ℤ → ℕ → List Field
+one sats sigs zs a = satellite_fields a (of_satellite a (records1059 sats sigs zs))
 
 pub open-pen-requires : goal.open-pen-requires
 open-pen-requires c = let f = c.requires.0 in (f.few, omega (arith, f.within))
 
 pub loop-a-init : goal.loop-a-init
-loop-a-init c = rw (c.«open».ensures.1, c.«open».ensures.0) (omega arith, left_all _ _ _)
+loop-a-init c = rw (c.open-pen.ensures.1, c.open-pen.ensures.0) (omega arith, left_all _ _ _)
 
 pub offset_bounds-counts-a : goal.offset_bounds-counts-a
 offset_bounds-counts-a c = omega arith
@@ -43,7 +41,7 @@ put_satellite-pen-requires c =
     let l = c.loop-a in
     let h = c.loop-a-test.true in
     let d = c.requires.2 in (
-      left_fits (one c l.a) _ (left_as (satellites_next (all c) l.a h) l.invariant.1) c.requires.0,
+      left_fits (one c.args.satellites.now c.args.signals.now c.args.biases.now l.a) _ (left_as (satellites_next (records1059 c.args.satellites.now c.args.signals.now c.args.biases.now) l.a h) l.invariant.1) c.requires.0,
       c.requires.1,
       d.chain,
       h,
@@ -62,7 +60,7 @@ pub loop-a-preserved : goal.loop-a-preserved
 loop-a-preserved c =
     let l = c.loop-a in (
       omega arith,
-      left_put (one c l.a) _ (left_as (satellites_next (all c) l.a c.loop-a-test.true) l.invariant.1) c.put_satellite-pen.ensures,
+      left_put (one c.args.satellites.now c.args.signals.now c.args.biases.now l.a) _ (left_as (satellites_next (records1059 c.args.satellites.now c.args.signals.now c.args.biases.now) l.a c.loop-a-test.true) l.invariant.1) c.put_satellite-pen.ensures,
     )
 
 pub lift-requires : goal.lift-requires
@@ -78,4 +76,4 @@ shape_of-bytes c = ap length c.lift.ensures ∙ c.loop-a.invariant.1.same
 pub returns : goal.returns
 returns c =
     let l = c.loop-a in
-    c.lift.ensures ∙ (left_none (left_as (satellites_none (all c) l.a c.loop-a-test.false) l.invariant.1)).left
+    c.lift.ensures ∙ (left_none (left_as (satellites_none (records1059 c.args.satellites.now c.args.signals.now c.args.biases.now) l.a c.loop-a-test.false) l.invariant.1)).left

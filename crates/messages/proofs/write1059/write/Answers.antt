@@ -1,7 +1,5 @@
 -- `messages::write1059::write` meets its contract: Kind of an edition that there is not, else the call of a known edition. Assumes nothing.
 use mathlib.Core.Path.{◌∙◌, sym}
-use borrow.Author.Rules.{rules}
-use borrow.Author.Tests.{not-true, not-false}
 use Rattle.messages.proofs.Write1059Laws.{no_edition, an_edition}
 use Rattle.messages.proofs.write1059.write.Goals as goal
 

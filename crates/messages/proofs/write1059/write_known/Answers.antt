@@ -1,6 +1,5 @@
 -- `messages::write1059::write_known` meets its contract. Each answer is the one that the sizes and the first fault ask for. Assumes nothing.
 use mathlib.Core.Path.{ap, ◌∙◌}
-use borrow.Author.Rules.{rules}
 use Rattle.messages.specs.StepsWrite1059.{told_fault}
 use Rattle.messages.proofs.FaultLaws.{first_fault_is, sound}
 use Rattle.messages.proofs.Write1059Laws.{long_data, uneven_signals, uneven_biases, many_records, some_fault, no_fault}

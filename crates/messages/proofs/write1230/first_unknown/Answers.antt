@@ -1,12 +1,7 @@
 -- `messages::write1230::first_unknown` meets its contract. The loop's invariant: the mask has each signal before `i`. Assumes nothing.
-use mathlib.Core.Path.{◌≡◌, refl, sym, ◌∙◌}
-use Prim.Native.Nat.{◌-◌, ◌≤◌}
+use mathlib.Core.Path.{refl, sym, ◌∙◌}
 use native.Mathlib.Omega.{arith}
-use borrow.Author.Rules.{rules}
-use borrow.Author.Tests.{lt-ltb, le-ltb, not-true, not-false}
-use lib.ListN.{length, drop}
-use Rattle.formats.specs.Written.{first_fault}
-use Rattle.messages.specs.Write1230.{fault1230}
+use borrow.Author.Tests.{lt-ltb, le-ltb}
 use Rattle.messages.proofs.Signals1230Laws.{unknown_here, known_here, none_unknown}
 use Rattle.messages.proofs.write1230.first_unknown.Goals as goal
 

@@ -1,13 +1,9 @@
 -- `messages::write1230::first_unknown` meets its contract. The loop's invariant: the mask has each signal before `i`. Assumes nothing.
-use mathlib.Core.Path.{◌≡◌, refl, sym, ◌∙◌}
+use mathlib.Core.Path.{◌≡◌}
 use Prim.Native.Nat.{◌-◌, ◌≤◌}
-use native.Mathlib.Omega.{arith}
-use borrow.Author.Rules.{rules}
-use borrow.Author.Tests.{lt-ltb, le-ltb, not-true, not-false}
 use lib.ListN.{length, drop}
 use Rattle.formats.specs.Written.{first_fault}
 use Rattle.messages.specs.Write1230.{fault1230}
-use Rattle.messages.proofs.Signals1230Laws.{unknown_here, known_here, none_unknown}
 use Rattle.messages.proofs.write1230.first_unknown.Given as goal
 
 abbrev pub invariant-loop-i : goal.invariant-loop-i

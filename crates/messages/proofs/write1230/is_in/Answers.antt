@@ -1,10 +1,6 @@
 -- `messages::write1230::is_in` meets its contract. The loop's invariant: the signal is not before `i`. Assumes nothing.
-use mathlib.Core.Path.{◌≡◌, refl, sym, ◌∙◌}
-use Prim.Native.Nat.{◌-◌, ◌≤◌}
+use mathlib.Core.Path.{refl, sym, ◌∙◌}
 use native.Mathlib.Omega.{arith}
-use borrow.Author.Rules.{rules}
-use lib.ListN.{length, drop}
-use Rattle.messages.specs.Write1230.{is_in}
 use Rattle.messages.proofs.Signals1230Laws.{in_here, in_later, in_none}
 use Rattle.messages.proofs.write1230.is_in.Goals as goal
 

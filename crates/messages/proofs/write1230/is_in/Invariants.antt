@@ -1,11 +1,8 @@
 -- `messages::write1230::is_in` meets its contract. The loop's invariant: the signal is not before `i`. Assumes nothing.
-use mathlib.Core.Path.{◌≡◌, refl, sym, ◌∙◌}
+use mathlib.Core.Path.{◌≡◌}
 use Prim.Native.Nat.{◌-◌, ◌≤◌}
-use native.Mathlib.Omega.{arith}
-use borrow.Author.Rules.{rules}
 use lib.ListN.{length, drop}
 use Rattle.messages.specs.Write1230.{is_in}
-use Rattle.messages.proofs.Signals1230Laws.{in_here, in_later, in_none}
 use Rattle.messages.proofs.write1230.is_in.Given as goal
 
 abbrev pub invariant-loop-i : goal.invariant-loop-i

@@ -1,19 +1,14 @@
 -- `messages::write1230::join` meets its contract. The loop's invariant: the signal is not before `i`. Assumes nothing.
-use mathlib.Core.Path.{◌≡◌, refl, sym, ap, ◌∙◌}
+use mathlib.Core.Path.{refl, sym, ap, ◌∙◌}
 use mathlib.Core.Bool.{Bool, cond}
-use Prim.Native.Nat.{◌+◌, ◌*◌, ◌-◌, ◌≤◌}
+use Prim.Native.Nat.{◌+◌, ◌*◌}
 use native.Mathlib.Nat.{add-zero}
 use native.Mathlib.Omega.{arith}
-use borrow.Author.Rules.{rules}
-use lib.ListN.{length, drop, get_or}
+use lib.ListN.{get_or}
 use lib.IntN.{pos}
 use Rattle.bits.specs.Signed.{twos_bits}
-use Rattle.messages.specs.Records.{records1230}
-use Rattle.messages.specs.Layout1230.{of_signal}
-use Rattle.messages.specs.Write1230.{is_in}
 use Rattle.messages.specs.StepsWrite1230.{bias_fields1230}
 use Rattle.messages.proofs.I16Laws.{same_16, all_fit}
-use Rattle.messages.proofs.RecordLaws.{from1230}
 use Rattle.messages.proofs.Signals1230Laws.{in_here, in_later, in_none}
 use Rattle.messages.proofs.Fields1230Laws.{only_here, signal_later, bias_none}
 use Rattle.messages.proofs.JoinLaws.{bias_joined, word_fits, joined_none}

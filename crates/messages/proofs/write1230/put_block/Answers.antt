@@ -1,7 +1,7 @@
 -- `messages::write1230::put_block` meets its contract. The bits and the biases of the four signals are joined, and the number that they make is put. Assumes nothing.
+use borrow.Author.Rules.{rules}
 use mathlib.Core.Path.{◌∙◌}
 use native.Mathlib.Omega.{arith}
-use borrow.Author.Rules.{rules}
 use Rattle.messages.proofs.Fields1230Laws.{bits_is}
 use Rattle.messages.proofs.Joined1230Laws.{after_one, after_two, after_three, after_four, block_joined}
 use Rattle.messages.proofs.write1230.put_block.Goals as goal
@@ -39,4 +39,4 @@ returns c =
     c.put_joined.ensures
     ∙ block_joined c.args.signals.now c.args.biases.now f c.join-a.ensures c.join-b.ensures c.join-c.ensures c.join-all.ensures c.args.bytes.now c.args.start
     (omega (arith, c.requires.0.within, bits_is c.args.signals.now c.args.biases.now f.even f.known))
-    (record { byte = λ k. (c.slice_known-1.given k).fits })
+    (record { byte = λ k. search rules })

@@ -1,6 +1,6 @@
 -- `messages::write1230::put_joined` meets its contract. One field, or 68 bits cut in two. Assumes nothing.
-use native.Mathlib.Omega.{arith}
 use borrow.Author.Rules.{rules}
+use native.Mathlib.Omega.{arith}
 use Rattle.messages.proofs.JoinLaws.{one_room, few_fit, few_put, upper_fit, lower_room, four_put}
 use Rattle.messages.proofs.write1230.put_joined.Goals as goal
 
@@ -31,6 +31,6 @@ unsigned-end-requires-2 c =
 pub returns : goal.returns
 returns c =
     four_put _ _ _ c.requires.2 c.if-n-lt4.false c.requires.3 c.requires.4 _ _ c.requires.0 c.requires.1 c.unsigned-at.ensures
-    (record { byte = λ k. (c.slice_known-1.given k).fits })
+    (record { byte = λ k. search rules })
     (upper_fit _ _ _ c.requires.2 c.if-n-lt4.false c.requires.3 c.requires.4).0
     c.unsigned-end-2.ensures

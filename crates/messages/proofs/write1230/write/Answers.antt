@@ -1,6 +1,5 @@
 -- `messages::write1230::write` meets its contract. Sizes are refused, and lists within them are written. Assumes nothing.
 use native.Mathlib.Omega.{arith}
-use borrow.Author.Rules.{rules}
 use Rattle.messages.proofs.Write1230Laws.{long_data, uneven_lists, many_records}
 use Rattle.messages.proofs.write1230.write.Goals as goal
 

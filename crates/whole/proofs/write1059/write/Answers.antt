@@ -1,0 +1,34 @@
+-- `whole::write1059::write` meets its contract. The header is tested, the block is written behind it, and then the front before it. Assumes nothing.
+use mathlib.Core.Path.{sym, ◌∙◌}
+use Rattle.whole.proofs.Write1059Laws.{another_edition, too_long, uneven, uneven_too, too_many_lem, wide_header, room_carries, front_fits, written, other}
+use Rattle.whole.proofs.write1059.write.Goals as goal
+
+pub returns-then-not-is_edition : goal.returns-then-not-is_edition
+returns-then-not-is_edition c = another_edition _ _ _ _ _ _ (sym c.is_edition.ensures ∙ c.if-not-is_edition.true)
+
+pub returns-then-bytes-gt1023 : goal.returns-then-bytes-gt1023
+returns-then-bytes-gt1023 c = too_long _ _ _ _ _ _ (sym c.is_edition.ensures ∙ c.if-not-is_edition.false) c.if-bytes-gt1023.true
+
+pub returns-then-satellites-signals : goal.returns-then-satellites-signals
+returns-then-satellites-signals c = uneven _ _ _ _ _ _ (sym c.is_edition.ensures ∙ c.if-not-is_edition.false) c.if-bytes-gt1023.false c.if-satellites-signals.true
+
+pub returns-then-satellites-biases : goal.returns-then-satellites-biases
+returns-then-satellites-biases c = uneven_too _ _ _ _ _ _ (sym c.is_edition.ensures ∙ c.if-not-is_edition.false) c.if-bytes-gt1023.false c.if-satellites-signals.false c.if-satellites-biases.true
+
+pub returns-then-satellites-gt1953 : goal.returns-then-satellites-gt1953
+returns-then-satellites-gt1953 c = too_many_lem _ _ _ _ _ _ (sym c.is_edition.ensures ∙ c.if-not-is_edition.false) c.if-bytes-gt1023.false c.if-satellites-signals.false c.if-satellites-biases.false c.if-satellites-gt1953.true
+
+pub returns-then-not-header_fits : goal.returns-then-not-header_fits
+returns-then-not-header_fits c = wide_header _ _ _ _ _ _ (sym c.is_edition.ensures ∙ c.if-not-is_edition.false) c.if-bytes-gt1023.false c.if-satellites-signals.false c.if-satellites-biases.false c.if-satellites-gt1953.false (sym c.header_fits.ensures ∙ c.if-not-header_fits.true)
+
+pub put_front-requires : goal.put_front-requires
+put_front-requires c = (front_fits _ _ _ _ _ _ (sym c.is_edition.ensures ∙ c.if-not-is_edition.false) c.if-bytes-gt1023.false c.if-satellites-signals.false c.if-satellites-biases.false c.if-satellites-gt1953.false (sym c.header_fits.ensures ∙ c.if-not-header_fits.false) _ c.write-written.ensures c.in-End.is, (sym c.header_fits.ensures ∙ c.if-not-header_fits.false))
+
+pub returns-in-End : goal.returns-in-End
+returns-in-End c = written _ _ _ _ _ _ (sym c.is_edition.ensures ∙ c.if-not-is_edition.false) c.if-bytes-gt1023.false c.if-satellites-signals.false c.if-satellites-biases.false c.if-satellites-gt1953.false (sym c.header_fits.ensures ∙ c.if-not-header_fits.false) _ c.write-written.ensures c.in-End.is c.put_front.ensures
+
+pub returns-in-Room : goal.returns-in-Room
+returns-in-Room c = room_carries _ _ _ _ _ _ (sym c.is_edition.ensures ∙ c.if-not-is_edition.false) c.if-bytes-gt1023.false c.if-satellites-signals.false c.if-satellites-biases.false c.if-satellites-gt1953.false (sym c.header_fits.ensures ∙ c.if-not-header_fits.false) _ c.write-written.ensures c.in-Room.is c.with_front.ensures
+
+pub returns-in_default : goal.returns-in_default
+returns-in_default c = other _ _ _ _ _ _ (sym c.is_edition.ensures ∙ c.if-not-is_edition.false) c.if-bytes-gt1023.false c.if-satellites-signals.false c.if-satellites-biases.false c.if-satellites-gt1953.false (sym c.header_fits.ensures ∙ c.if-not-header_fits.false) c.write-written.result c.write-written.ensures c.in_default.not-End c.in_default.not-Room
