@@ -61,7 +61,7 @@ RECORDINGS := $(foreach name,$(RECORDING_NAMES),$(firstword $(wildcard $(addsuff
 recording = $(firstword $(filter %/$(1),$(RECORDINGS)))
 ANSWERS := c/data/answers.hex
 
-RATTLE_FILES := crates.txt $(shell find crates -name must-fail -prune -o -type f \( -name '*.rt' -o -name '*.antt' \) -print)
+RATTLE_FILES := crates.txt $(shell find crates \( -name must-fail -o -name out \) -prune -o -type f \( -name '*.rt' -o -name '*.antt' \) -print)
 
 .PHONY: all install check relay bench bench-run bench-worst differential differential-faults lint clean
 .PHONY: check-papers check-header check-opt check-san check-valgrind check-cpp check-exports check-relay check-install check-programs
@@ -71,8 +71,8 @@ all: libpeerivolt.a libpeerivolt.so
 # ---- The library.
 
 libpeerivolt.a: $(RATTLE_FILES)
-	$(RT) staticlib peerivolt
-	cp target/staticlib/libpeerivolt.a $@
+	cd crates/peerivolt && $(RT) lib
+	cp crates/peerivolt/out/libpeerivolt.a $@
 
 # The whole archive as a shared object that exports the names of the header and nothing else.
 SHARE := -shared -Wl,-soname,$(SONAME) -Wl,--version-script=c/peerivolt.map -Wl,-z,defs
@@ -269,25 +269,28 @@ check-relay: $(foreach name,relay $(HELPERS),$(B)/opt/$(name) $(B)/san/$(name))
 	c/test_relay.sh $(B)/opt $(call recording,ublox-f9p-rtcm.bin) $(call recording,rtcm3-3.bin)
 	c/test_relay.sh $(B)/san $(call recording,rtcm3-3.bin)
 
+# What is installed goes away again: `rt ci` refuses a checkout that has a link in one of its folders.
 check-install: $(ARCHIVE) $(SHARED)
 	@$(MAKE) --no-print-directory install LIB=$(LIB) DESTDIR= PREFIX=$(abspath $(B))/prefix >/dev/null
 	CC='$(CC)' EMULATOR='$(if $(FOREIGN),$(EMULATOR))' SONAME=$(SONAME) VERSION=$(VERSION) c/test_install.sh $(abspath $(B))/prefix c/example.c $(call recording,rtcm3-3.bin) 200
+	@rm -r $(B)/prefix
 
-# The programs of crates/, where `rt check` or the gate has built them. Those too are for x86-64.
-BIN := $(if $(EMULATOR),$(CURDIR)/build/bin,$(CURDIR)/target/bin)
+# The programs of crates/, where `rt run` or the gate has built them, put side by side. Those too are for x86-64.
+BIN := build/bin
 
 check-programs:
-	@rm -rf build/bin && mkdir -p build/bin
-	@for program in $(if $(EMULATOR),target/bin/*); do \
-	    printf '#!/bin/sh\nexec %s "%s" "$$@"\n' '$(EMULATOR)' "$(CURDIR)/$$program" >build/bin/$${program##*/} && chmod +x build/bin/$${program##*/}; \
-	done
+	@rm -rf $(BIN) && mkdir -p $(BIN)
 	@for program in rtcm_scan rtcm_biases rtcm_observations rtcm_why rtcm_compare rtcm_salvage; do \
-	    [ -x target/bin/$$program ] || { missing=1; break; }; \
+	    built=crates/$$program/out/$$program; \
+	    if [ ! -x $$built ]; then missing=1; \
+	    elif [ -z '$(EMULATOR)' ]; then cp $$built $(BIN)/$$program; \
+	    else printf '#!/bin/sh\nexec %s "%s" "$$@"\n' '$(EMULATOR)' "$(CURDIR)/$$built" >$(BIN)/$$program && chmod +x $(BIN)/$$program; \
+	    fi; \
 	done; \
 	if [ -z "$$missing" ]; then \
-	    c/test_programs.sh $(BIN) $(CURDIR)/c/data $(VERSION) $(CURDIR)/crates; \
+	    c/test_programs.sh $(CURDIR)/$(BIN) $(CURDIR)/c/data $(VERSION) $(CURDIR)/crates; \
 	else \
-	    echo "programs: skipped, since rt check has not built them here"; \
+	    echo "programs: skipped, since neither rt run nor the gate has built them here"; \
 	fi
 
 # ---- Installing.

@@ -1,13 +1,11 @@
 #!/bin/sh
 # Prints the command that runs a program for x86-64 on this machine, where one is needed and there is one: qemu-x86_64 of
-# the system or of the kit, over the C library of Debian's cross compiler or of the kit.
+# the system, over the C library of Debian's cross compiler or of the kit.
 set -u
 
 [ "$(uname -m)" != x86_64 ] || exit 0
-kit=$(dirname "$(dirname "$(rt doc 2>/dev/null || echo /nowhere/docs/page)")")
-tools=$kit/on/$(uname -m)/toolchain
-qemu=$(command -v qemu-x86_64 || echo "$tools/bin/qemu-x86_64")
-[ -x "$qemu" ] || exit 0
+tools=$(dirname "$(rt doc 2>/dev/null || echo /nowhere/page)")/toolchain
+qemu=$(command -v qemu-x86_64) || exit 0
 # The libraries are named too, so that loader and C library are of one version where the system has others for x86-64.
 if [ -d /usr/x86_64-linux-gnu/lib ]; then
     echo "$qemu -L /usr/x86_64-linux-gnu -E LD_LIBRARY_PATH=/usr/x86_64-linux-gnu/lib"

@@ -1,10 +1,10 @@
-//! Links libpeerivolt.a: the file that PEERIVOLT_ARCHIVE names, or the one that `rt staticlib peerivolt` writes. A file
+//! Links libpeerivolt.a: the file that PEERIVOLT_ARCHIVE names, or the one that `rt lib` writes in crates/peerivolt. A file
 //! called libNAME.so is linked as a shared object.
 use std::env;
 use std::path::{Path, PathBuf};
 
 /// Where the archive lies unless PEERIVOLT_ARCHIVE says otherwise, from the root of the repository.
-const DEFAULT_ARCHIVE: &str = "target/staticlib/libpeerivolt.a";
+const DEFAULT_ARCHIVE: &str = "crates/peerivolt/out/libpeerivolt.a";
 
 /// The name by which a linker knows the archive.
 fn library(archive: &Path) -> &str {

@@ -24,7 +24,7 @@ absolute() {
 
 named=${RTCM_RS_SOURCE:-}
 RTCM_RS_SOURCE=$(absolute "${named:-$root/../shared/docs/src}")
-PEERIVOLT_ARCHIVE=$(absolute "${PEERIVOLT_ARCHIVE:-$root/target/staticlib/libpeerivolt.a}")
+PEERIVOLT_ARCHIVE=$(absolute "${PEERIVOLT_ARCHIVE:-$root/crates/peerivolt/out/libpeerivolt.a}")
 export RTCM_RS_SOURCE PEERIVOLT_ARCHIVE
 if [ -n "${RECORDINGS:-}" ]; then
     RECORDINGS=$(absolute "$RECORDINGS")
