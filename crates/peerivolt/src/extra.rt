@@ -5,7 +5,7 @@ ghost use Rattle.peerivolt.specs.Extra.{numbers, spread};
 ghost use Rattle.peerivolt.specs.Answers.{replied};
 
 // An answer in numbers: what a call returns, and the eight numbers of the extra area.
-#[derive(Drop)]
+#[derive(Clone, Copy)]
 pub(crate) struct Reply {
     pub number: u32,
     pub extra: [u64; 8],

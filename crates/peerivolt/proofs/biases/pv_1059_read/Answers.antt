@@ -1,0 +1,13 @@
+-- The block is read, and the answer goes into the extra area. Assumes nothing.
+use mathlib.Core.Path.{◌∙◌}
+use borrow.Author.Rules.{rules}
+use Rattle.peerivolt.specs.Biases.{counted_values}
+use Rattle.peerivolt.proofs.AnswerLaws.{not_sized, sized}
+use Rattle.peerivolt.proofs.biases.pv_1059_read.Goals as goal
+
+pub returns-then-extra-ne8 : goal.returns-then-extra-ne8
+returns-then-extra-ne8 c = not_sized counted_values _ _ _ c.if-extra-ne8.true
+
+pub returns : goal.returns
+returns c =
+    sized counted_values _ _ c.if-extra-ne8.false (c.fill.ensures ∙ c.block_read.ensures) c.read.ensures

@@ -1,0 +1,12 @@
+-- The call writes, and its answer goes into the extra area. Assumes nothing.
+use mathlib.Core.Path.{◌∙◌}
+use borrow.Author.Rules.{rules}
+use Rattle.peerivolt.specs.Fields.{end_values}
+use Rattle.peerivolt.proofs.AnswerLaws.{not_sized, sized}
+use Rattle.peerivolt.proofs.blocks.pv_settings_write.Goals as goal
+
+pub returns-then-extra-ne8 : goal.returns-then-extra-ne8
+returns-then-extra-ne8 c = not_sized end_values _ _ _ c.if-extra-ne8.true
+
+pub returns : goal.returns
+returns c = sized end_values _ _ c.if-extra-ne8.false (c.fill.ensures ∙ c.block_written.ensures) c.write.ensures

@@ -1,0 +1,13 @@
+-- The call compares, and its answer goes into the extra area. Assumes nothing.
+use mathlib.Core.Path.{◌∙◌}
+use borrow.Author.Rules.{rules}
+use Rattle.peerivolt.specs.Damage.{run_values}
+use Rattle.peerivolt.proofs.AnswerLaws.{not_read, read}
+use Rattle.peerivolt.proofs.comparing.pv_differing.Goals as goal
+
+pub returns-then-extra-ne8 : goal.returns-then-extra-ne8
+returns-then-extra-ne8 c = not_read run_values _ _ c.if-extra-ne8.true
+
+pub returns : goal.returns
+returns c =
+    read run_values _ c.if-extra-ne8.false (c.fill.ensures ∙ c.compared.ensures) c.compare.ensures

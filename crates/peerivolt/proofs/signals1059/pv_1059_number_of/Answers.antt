@@ -1,0 +1,13 @@
+-- The call reads, and its answer goes into the extra area. Assumes nothing.
+use mathlib.Core.Path.{◌∙◌}
+use borrow.Author.Rules.{rules}
+use Rattle.peerivolt.specs.Signals.{number_values}
+use Rattle.peerivolt.proofs.AnswerLaws.{not_read, read}
+use Rattle.peerivolt.proofs.signals1059.pv_1059_number_of.Goals as goal
+
+pub returns-then-extra-ne8 : goal.returns-then-extra-ne8
+returns-then-extra-ne8 c = not_read number_values _ _ c.if-extra-ne8.true
+
+pub returns : goal.returns
+returns c =
+    read number_values _ c.if-extra-ne8.false (c.fill.ensures ∙ c.number_told.ensures) c.number_of_1059.ensures
