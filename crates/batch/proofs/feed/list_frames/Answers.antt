@@ -1,5 +1,4 @@
 -- Each refusal is a case of the call; past them, the walk and what it leads to are the call. Assumes nothing.
--- past the refusals the call is accepted
 use mathlib.Core.List.{List}
 use Prim.Native.Nat.{ℕ, ◌+◌, ◌^◌, ◌≤◌, ◌<◌}
 use native.Mathlib.Omega.{arith}

@@ -1,5 +1,4 @@
 -- What the search of the bytes held alone found says what to move. Assumes nothing.
--- the places that were found
 use mathlib.Core.Path.{◌≡◌, refl, sym, ap, subst, ◌∙◌}
 use mathlib.Core.List.{[], ◌++◌}
 use Prim.Native.Nat.{◌+◌, ◌-◌}

@@ -1,5 +1,4 @@
 -- What the search found says what to move: the moves make the outcome. Assumes nothing.
--- the places of a frame that was found
 use mathlib.Core.Path.{refl, sym, ap, subst, ◌∙◌}
 use native.Mathlib.Omega.{arith}
 use lib.ListN.{length}

@@ -1,5 +1,4 @@
 -- Each refusal is a case of the call; past them, the moves by what the search finds are the call. Assumes nothing.
--- past the refusals the call is accepted
 use mathlib.Core.Path.{sym, ◌∙◌}
 use native.Mathlib.Omega.{arith}
 use Rattle.frames.specs.Answers.{known}

@@ -1,5 +1,4 @@
 -- Eight stores in a row are the whole area. Assumes nothing.
--- a list of eight is its eight elements
 use mathlib.Core.Path.{◌≡◌, refl, ap, ◌∙◌}
 use mathlib.Core.List.{List, [], ◌∷◌, ◌++◌}
 use Prim.Native.Nat.{ℕ}
@@ -10,6 +9,7 @@ use borrow.Author.Rules.{rules}
 use Rattle.peerivolt.specs.Extra.{numbers}
 use Rattle.peerivolt.proofs.extra.fill.Goals as goal
 
+-- a list of eight is its eight elements
 eight : (x : List ℕ) → length x ≡ 8 → get_or x 0 0 ∷ get_or x 1 0 ∷ get_or x 2 0 ∷ get_or x 3 0 ∷ get_or x 4 0 ∷ get_or x 5 0 ∷ get_or x 6 0 ∷ get_or x 7 0 ∷ [] ≡ x
 eight (a ∷ b ∷ c ∷ d ∷ e ∷ f ∷ g ∷ h ∷ []) l = refl
 eight [] l = absurd (omega arith)
