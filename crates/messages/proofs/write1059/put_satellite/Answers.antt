@@ -83,7 +83,7 @@ pub bits_of-requires : goal.bits_of-requires
 bits_of-requires c =
     let l = c.loop-i in
     let z = get_or c.args.biases.now l.i (pos 0) in
-    rw (same_16 z c.bits_of-arg-1.given) (c.requires.1.fits l.i c.loop-i-test.true)
+    rw (same_16 z (omega arith)) (c.requires.1.fits l.i c.loop-i-test.true)
 
 pub two-pen-requires-in-loop-i : goal.two-pen-requires-in-loop-i
 two-pen-requires-in-loop-i c =
@@ -91,7 +91,7 @@ two-pen-requires-in-loop-i c =
     let d = c.requires.1 in
     let h = c.loop-i-test.true in
     let z = get_or c.args.biases.now l.i (pos 0) in
-    let e = c.bits_of.ensures.0 ∙ ap (twos_bits 14) (same_16 z c.bits_of-arg-1.given) in
+    let e = c.bits_of.ensures.0 ∙ ap (twos_bits 14) (same_16 z (omega arith)) in
     rw e (
       left_fits (bits 5 (get_or c.args.signals.now l.i 0) ∷ bits 14 (twos_bits 14 z) ∷ []) _
           (left_as (bias_here c.args.satellites.now c.args.signals.now c.args.biases.now d.signals d.biases c.args.a l.i h l.invariant.1) (left (goal.at.two-pen-requires-in-loop-i c).At-loop-i))
@@ -125,7 +125,7 @@ loop-i-preserved c =
     let h = c.loop-i-test.true in
     let z = get_or c.args.biases.now l.i (pos 0) in
     let e = linked (goal.at.loop-i-preserved c).At-loop-i h in
-    let put = rw (c.bits_of.ensures.0 ∙ ap (twos_bits 14) (same_16 z c.bits_of-arg-1.given)) at c.two-pen-in-loop-i.ensures in (
+    let put = rw (c.bits_of.ensures.0 ∙ ap (twos_bits 14) (same_16 z (omega arith))) at c.two-pen-in-loop-i.ensures in (
       e.1,
       rw e.2 (next_stands sats c.args.signals.now c.args.biases.now d.signals d.biases c.args.a (suc l.i) h),
       rw e.2

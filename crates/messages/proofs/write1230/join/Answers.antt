@@ -20,7 +20,7 @@ loop-i-init c = (omega arith, refl, refl)
 pub word_of-word-requires : goal.word_of-word-requires
 word_of-word-requires c =
     let z = get_or c.args.biases.now c.loop-i.i (pos 0) in
-    rw (same_16 z c.word_of-arg-1.given) (all_fit z c.word_of-arg-1.given)
+    rw (same_16 z (omega arith)) (all_fit z (omega arith))
 
 pub overflow_add-result-then-signals-i : goal.overflow_add-result-then-signals-i
 overflow_add-result-then-signals-i c = omega (arith, word_fits _ _ c.requires.2 c.word_of-word.ensures.1)
@@ -29,7 +29,7 @@ pub returns-then-signals-i : goal.returns-then-signals-i
 returns-then-signals-i c =
     let l = c.loop-i in
     let z = get_or c.args.biases.now l.i (pos 0) in
-    let e = c.word_of-word.ensures.0 ∙ ap (twos_bits 16) (same_16 z c.word_of-arg-1.given) in
+    let e = c.word_of-word.ensures.0 ∙ ap (twos_bits 16) (same_16 z (omega arith)) in
     let t = l.invariant.1 ∙ in_here c.args.signal c.args.signals.now l.i c.loop-i-test.true c.if-signals-i.true in
     let o = only_here c.args.signal c.args.signals.now c.args.biases.now c.requires.0.even l.i c.loop-i-test.true c.requires.0.single t c.if-signals-i.true l.invariant.2 in
     (ap (λ (b : Bool). c.args.above.mask * 2 + cond b 1 0) (sym t), bias_joined _ _ c.requires.2 e c.word_of-word.ensures.1 o)

@@ -4,12 +4,12 @@ use Rattle.messages.proofs.MetresLaws.{wide_fits, times_fits, twice}
 use Rattle.messages.proofs.bias.Bias1230.hundredths.Goals as goal
 
 pub overflow_cast-result : goal.overflow_cast-result
-overflow_cast-result c = wide_fits c.args.self.0 c.struct_told-1.given.0.1
+overflow_cast-result c = wide_fits c.args.self.0 (omega arith)
 
 pub overflow_mul-result : goal.overflow_mul-result
 overflow_mul-result c =
-    let fits = times_fits c.args.self.0 c.struct_told-1.given.0.1 in
-    search (fits 1 (omega arith), fits 2 (omega arith))
+    let fits = times_fits c.args.self.0 (omega arith) in
+    search (fits 2 (omega arith))
 
 pub returns : goal.returns
-returns c = twice c.args.self.0 c.struct_told-1.given.0.1
+returns c = twice c.args.self.0 (omega arith)
