@@ -1,10 +1,8 @@
 -- The loop has moved the first k bytes. Assumes nothing.
 use mathlib.Core.Path.{◌≡◌, refl, ap, ◌∙◌}
-use mathlib.Core.List.{◌++◌}
-use Prim.Native.Nat.{◌+◌, ◌-◌, ◌≤◌}
+use Prim.Native.Nat.{◌+◌}
 use native.Mathlib.Omega.{arith}
-use lib.ListN.{length, take, drop, get_or, set, length-set}
-use borrow.Author.Rules.{rules}
+use lib.ListN.{get_or, set, length-set}
 use Rattle.frames.proofs.SeamLaws.{shift_turn}
 use Rattle.batch.proofs.copy.shift.Goals as goal
 

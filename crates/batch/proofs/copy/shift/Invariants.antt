@@ -1,11 +1,8 @@
 -- The loop has moved the first k bytes. Assumes nothing.
-use mathlib.Core.Path.{◌≡◌, refl, ap, ◌∙◌}
+use mathlib.Core.Path.{◌≡◌}
 use mathlib.Core.List.{◌++◌}
-use Prim.Native.Nat.{◌+◌, ◌-◌, ◌≤◌}
-use native.Mathlib.Omega.{arith}
-use lib.ListN.{length, take, drop, get_or, set, length-set}
-use borrow.Author.Rules.{rules}
-use Rattle.frames.proofs.SeamLaws.{shift_turn}
+use Prim.Native.Nat.{◌-◌, ◌≤◌}
+use lib.ListN.{length, take, drop}
 use Rattle.batch.proofs.copy.shift.Given as goal
 
 abbrev pub invariant-loop-k : goal.invariant-loop-k

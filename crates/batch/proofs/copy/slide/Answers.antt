@@ -2,7 +2,6 @@
 use mathlib.Core.Path.{refl, ap, ◌∙◌}
 use Prim.Native.Nat.{◌-◌}
 use native.Mathlib.Omega.{arith}
-use borrow.Author.Rules.{rules}
 use Rattle.bits.specs.Onto.{over}
 use Rattle.frames.proofs.SeamLaws.{slide_none, slide_right, slide_both}
 use Rattle.batch.proofs.copy.slide.Goals as goal

@@ -1,6 +1,5 @@
 -- Each refusal is a case of the call. Assumes nothing.
 use native.Mathlib.Omega.{arith}
-use borrow.Author.Rules.{rules}
 use Rattle.batch.proofs.CallLaws.{wrong_area, wrong_seam, wrong_count, over_taken, over_limit, wrong_mode}
 use Rattle.batch.proofs.feed.feed_all.Goals as goal
 

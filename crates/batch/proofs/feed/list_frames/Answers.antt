@@ -1,13 +1,10 @@
 -- Each refusal is a case of the call; past them, the walk and what it leads to are the call. Assumes nothing.
-use mathlib.Core.List.{List}
-use Prim.Native.Nat.{ℕ, ◌+◌, ◌^◌, ◌≤◌, ◌<◌}
+use Prim.Native.Nat.{◌+◌, ◌^◌, ◌≤◌, ◌<◌}
 use native.Mathlib.Omega.{arith}
 use lib.ListN.{length}
-use borrow.Author.Rules.{rules}
-use Rattle.frames.specs.Call.{Scanner}
 use Rattle.frames.specs.Modes.{framing_of}
 use Rattle.frames.specs.Answers.{known}
-use Rattle.batch.specs.Batch.{Areas, areas}
+use Rattle.batch.specs.Batch.{areas}
 use Rattle.batch.specs.Steps.{lists}
 use Rattle.batch.proofs.CallLaws.{FitsAll, long_piece, past_limit, uneven_lengths, uneven_kinds, no_place, all_called}
 use Rattle.batch.proofs.StopLaws.{within_area}
@@ -33,18 +30,18 @@ settle-requires c =
     let a = c.args in
     let p = c.requires in
     let f : FitsAll (areas a.held.now a.seam.now a.starts.now a.lengths.now a.kinds.now) (known a.scanner) a.piece.now = record {
-        area = p.0;
-        seam = p.1;
-        count = p.2;
-        held = p.3;
-        taken = p.4;
-        mode = p.5;
-        piece = omega arith;
-        limit = omega arith;
-        lengths = omega arith;
-        kinds = omega arith;
-        some = omega arith;
-      } in
+      area = p.0;
+      seam = p.1;
+      count = p.2;
+      held = p.3;
+      taken = p.4;
+      mode = p.5;
+      piece = omega arith;
+      limit = omega arith;
+      lengths = omega arith;
+      kinds = omega arith;
+      some = omega arith;
+    } in
     let room : a.scanner.count ≤ length a.held.now = omega (arith, f.area, f.count) in
     let limit : a.scanner.taken + length a.piece.now < 2 ^ 64 = omega (arith, f.limit) in
     (room, f.held, limit, within_area _ a.held.now a.scanner.count (length a.piece.now) f.area room c.walk-found.ensures.within)
@@ -54,16 +51,16 @@ returns c =
     let a = c.args in
     let p = c.requires in
     let f : FitsAll (areas a.held.now a.seam.now a.starts.now a.lengths.now a.kinds.now) (known a.scanner) a.piece.now = record {
-        area = p.0;
-        seam = p.1;
-        count = p.2;
-        held = p.3;
-        taken = p.4;
-        mode = p.5;
-        piece = omega arith;
-        limit = omega arith;
-        lengths = omega arith;
-        kinds = omega arith;
-        some = omega arith;
-      } in
+      area = p.0;
+      seam = p.1;
+      count = p.2;
+      held = p.3;
+      taken = p.4;
+      mode = p.5;
+      piece = omega arith;
+      limit = omega arith;
+      lengths = omega arith;
+      kinds = omega arith;
+      some = omega arith;
+    } in
     all_called (framing_of a.scanner.mode) (areas a.held.now a.seam.now a.starts.now a.lengths.now a.kinds.now) (known a.scanner) a.piece.now f _ (lists _ _ _ _) c.walk-found.ensures c.settle.ensures

@@ -2,7 +2,6 @@
 use mathlib.Core.Path.{refl}
 use native.Mathlib.Omega.{arith}
 use lib.ListN.{length}
-use borrow.Author.Rules.{rules}
 use Rattle.frames.specs.Answers.{known}
 use Rattle.batch.proofs.StopLaws.{taken_fits, stop_taken, settles}
 use Rattle.batch.proofs.feed.settle.Goals as goal

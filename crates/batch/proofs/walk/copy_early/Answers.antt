@@ -3,7 +3,6 @@ use mathlib.Core.Path.{ap, ◌∙◌}
 use Prim.Native.Nat.{◌+◌, ◌-◌}
 use native.Mathlib.Omega.{arith}
 use lib.ListN.{take}
-use borrow.Author.Rules.{rules}
 use Rattle.bits.specs.Onto.{over}
 use Rattle.batch.proofs.ListLaws.{early, late}
 use Rattle.batch.proofs.walk.copy_early.Goals as goal

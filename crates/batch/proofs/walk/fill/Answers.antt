@@ -1,10 +1,7 @@
 -- The first k frames are filled in. Assumes nothing.
-use mathlib.Core.List.{◌++◌}
-use Prim.Native.Nat.{◌+◌, ◌-◌, ◌≤◌}
 use native.Mathlib.Omega.{arith}
-use lib.ListN.{length}
 use borrow.Author.Rules.{rules}
-use Rattle.batch.proofs.FillLaws.{Filled, filled_none, next_part, fill_turn, all_copied, all_told}
+use Rattle.batch.proofs.FillLaws.{filled_none, next_part, fill_turn, all_copied, all_told}
 use Rattle.batch.proofs.walk.fill.Goals as goal
 
 pub loop-k-init : goal.loop-k-init

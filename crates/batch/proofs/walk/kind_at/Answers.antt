@@ -1,6 +1,5 @@
 -- The place lies before the seam of held bytes and piece, or behind it. Assumes nothing.
 use mathlib.Core.Path.{ap, ◌∙◌}
-use borrow.Author.Rules.{rules}
 use Rattle.frames.proofs.SeamLaws.{at_left, at_right}
 use Rattle.batch.specs.Steps.{kind_number_at}
 use Rattle.batch.proofs.walk.kind_at.Goals as goal

@@ -1,6 +1,5 @@
 -- What is listed, and what is filled in for it, are the first frames of the scan. Assumes nothing.
 use native.Mathlib.Omega.{arith}
-use borrow.Author.Rules.{rules}
 use Rattle.batch.specs.Steps.{Lists, lists}
 use Rattle.batch.proofs.FillLaws.{listed_is, counted, fills, walks}
 use Rattle.batch.proofs.walk.walk.Goals as goal

@@ -1,6 +1,5 @@
 -- A byte other than D3 is ruled by itself, a D3 by the frame check of the bytes from it on. Assumes nothing.
 use mathlib.Core.Path.{◌≡◌, ap, subst}
-use borrow.Author.Rules.{rules}
 use Rattle.bits.specs.Told.{Accepted}
 use Rattle.frames.specs.Rtcm.{at_d3}
 use Rattle.frames.specs.Close.{final}

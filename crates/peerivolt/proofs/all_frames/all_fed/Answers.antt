@@ -1,6 +1,5 @@
 -- Each arm tells what its answer tells. Assumes nothing.
 use mathlib.Core.Path.{◌∙◌}
-use borrow.Author.Rules.{rules}
 use Rattle.frames.specs.Answers.{known}
 use Rattle.batch.specs.Answers.{told_all}
 use Rattle.peerivolt.specs.AllFrames.{all_values}

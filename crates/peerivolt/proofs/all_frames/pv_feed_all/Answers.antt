@@ -1,6 +1,5 @@
 -- A wrong size returns at once; else what was listed goes into the extra area. Assumes nothing.
 use mathlib.Core.Path.{◌∙◌}
-use borrow.Author.Rules.{rules}
 use Rattle.peerivolt.proofs.AllFramesLaws.{no_extra, no_held, no_seam, all_listed}
 use Rattle.peerivolt.proofs.all_frames.pv_feed_all.Goals as goal
 

@@ -2,7 +2,6 @@
 use mathlib.Core.Path.{ap, ◌∙◌}
 use mir.Syntax.{w16}
 use mir.ValLaws.{to_z-of_z}
-use borrow.Author.Rules.{rules}
 use Rattle.messages.specs.Metres.{metres1059}
 use Rattle.peerivolt.proofs.biases.pv_1059_metres.Goals as goal
 

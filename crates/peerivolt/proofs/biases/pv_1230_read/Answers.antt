@@ -1,6 +1,5 @@
 -- The block is read, and the answer goes into the extra area. Assumes nothing.
 use mathlib.Core.Path.{◌∙◌}
-use borrow.Author.Rules.{rules}
 use Rattle.peerivolt.specs.Biases.{counted_values}
 use Rattle.peerivolt.proofs.AnswerLaws.{not_sized, sized}
 use Rattle.peerivolt.proofs.biases.pv_1230_read.Goals as goal

@@ -1,7 +1,6 @@
 -- Each arm tells what its answer tells. Assumes nothing.
 use mathlib.Core.Path.{◌∙◌}
 use Rattle.settings.specs.Answers.{told_read}
-use borrow.Author.Rules.{rules}
 use Rattle.peerivolt.specs.Settings.{found_values}
 use Rattle.peerivolt.proofs.AnswerLaws.{tells}
 use Rattle.peerivolt.proofs.blocks.block_read.Goals as goal

@@ -1,7 +1,6 @@
 -- Each arm tells what its answer tells. Assumes nothing.
 use mathlib.Core.Path.{◌∙◌}
 use Rattle.settings.specs.Answers.{told_written}
-use borrow.Author.Rules.{rules}
 use Rattle.peerivolt.specs.Fields.{end_values}
 use Rattle.peerivolt.proofs.AnswerLaws.{tells}
 use Rattle.peerivolt.proofs.blocks.block_written.Goals as goal

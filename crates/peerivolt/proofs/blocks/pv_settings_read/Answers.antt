@@ -1,6 +1,5 @@
 -- A wrong size returns at once; else what was read goes into the extra area. Assumes nothing.
 use mathlib.Core.Path.{◌∙◌}
-use borrow.Author.Rules.{rules}
 use Rattle.peerivolt.proofs.SettingsLaws.{no_extra, no_numbers, no_priorities, settings_read}
 use Rattle.peerivolt.proofs.blocks.pv_settings_read.Goals as goal
 

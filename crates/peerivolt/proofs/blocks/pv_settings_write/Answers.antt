@@ -1,6 +1,5 @@
 -- The call writes, and its answer goes into the extra area. Assumes nothing.
 use mathlib.Core.Path.{◌∙◌}
-use borrow.Author.Rules.{rules}
 use Rattle.peerivolt.specs.Fields.{end_values}
 use Rattle.peerivolt.proofs.AnswerLaws.{not_sized, sized}
 use Rattle.peerivolt.proofs.blocks.pv_settings_write.Goals as goal

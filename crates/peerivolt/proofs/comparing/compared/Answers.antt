@@ -1,7 +1,6 @@
 -- Each arm tells what its answer tells. Assumes nothing.
 use mathlib.Core.Path.{◌∙◌}
 use Rattle.damage.specs.Answers.{told_compared}
-use borrow.Author.Rules.{rules}
 use Rattle.peerivolt.specs.Damage.{run_values}
 use Rattle.peerivolt.proofs.AnswerLaws.{tells}
 use Rattle.peerivolt.proofs.comparing.compared.Goals as goal

@@ -1,6 +1,5 @@
 -- The call compares, and its answer goes into the extra area. Assumes nothing.
 use mathlib.Core.Path.{◌∙◌}
-use borrow.Author.Rules.{rules}
 use Rattle.peerivolt.specs.Damage.{run_values}
 use Rattle.peerivolt.proofs.AnswerLaws.{not_read, read}
 use Rattle.peerivolt.proofs.comparing.pv_differing.Goals as goal

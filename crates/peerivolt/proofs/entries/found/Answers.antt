@@ -3,7 +3,6 @@ use mathlib.Core.Path.{ap₂, ◌∙◌}
 use mathlib.Core.List.{[], ◌∷◌}
 use Prim.Native.Nat.{ℕ}
 use Rattle.cache.specs.Answers.{told_found}
-use borrow.Author.Rules.{rules}
 use Rattle.peerivolt.specs.Extra.{numbers, spread}
 use Rattle.peerivolt.specs.Cache.{value_values}
 use Rattle.peerivolt.proofs.AnswerLaws.{tells}

@@ -1,5 +1,4 @@
 -- Below the top bit as it is, else with ones before it. Assumes nothing.
-use borrow.Author.Rules.{rules}
 use Rattle.peerivolt.proofs.CacheLaws.{stays, rises}
 use Rattle.peerivolt.proofs.entries.in_long.Goals as goal
 

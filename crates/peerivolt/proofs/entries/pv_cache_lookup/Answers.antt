@@ -5,7 +5,6 @@ use mathlib.Core.Option.{Option}
 use Prim.Native.Nat.{ℕ}
 use Rattle.bits.specs.Outcome.{Outcome}
 use Rattle.cache.specs.Cache.{Value}
-use borrow.Author.Rules.{rules}
 use Rattle.peerivolt.specs.Cache.{value_values}
 use Rattle.peerivolt.proofs.AnswerLaws.{not_read, read}
 use Rattle.peerivolt.proofs.entries.pv_cache_lookup.Goals as goal

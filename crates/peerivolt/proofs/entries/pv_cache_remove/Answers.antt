@@ -1,6 +1,5 @@
 -- The call is made, and its answer goes into the extra area. Assumes nothing.
 use mathlib.Core.Path.{◌∙◌}
-use borrow.Author.Rules.{rules}
 use Rattle.peerivolt.specs.Cache.{value_values}
 use Rattle.peerivolt.proofs.AnswerLaws.{not_sized, sized}
 use Rattle.peerivolt.proofs.entries.pv_cache_remove.Goals as goal

@@ -1,7 +1,6 @@
 -- Each arm tells what its answer tells. Assumes nothing.
 use mathlib.Core.Path.{◌∙◌}
 use Rattle.cache.specs.Answers.{told_stored}
-use borrow.Author.Rules.{rules}
 use Rattle.peerivolt.specs.Cache.{value_values}
 use Rattle.peerivolt.proofs.AnswerLaws.{tells}
 use Rattle.peerivolt.proofs.entries.stored.Goals as goal

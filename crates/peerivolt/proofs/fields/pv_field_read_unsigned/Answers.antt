@@ -1,6 +1,5 @@
 -- The call reads, and its answer goes into the extra area. Assumes nothing.
 use mathlib.Core.Path.{◌∙◌}
-use borrow.Author.Rules.{rules}
 use Rattle.peerivolt.specs.Fields.{reading_values}
 use Rattle.peerivolt.proofs.AnswerLaws.{not_read, read}
 use Rattle.peerivolt.proofs.fields.pv_field_read_unsigned.Goals as goal

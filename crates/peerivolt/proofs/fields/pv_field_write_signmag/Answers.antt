@@ -2,7 +2,6 @@
 use mathlib.Core.Path.{ap, ◌∙◌}
 use mir.Syntax.{w64}
 use mir.ValLaws.{to_z-of_z}
-use borrow.Author.Rules.{rules}
 use Rattle.bits.specs.Field.{write_signmag}
 use Rattle.peerivolt.specs.Fields.{end_values}
 use Rattle.peerivolt.proofs.AnswerLaws.{not_sized, sized}

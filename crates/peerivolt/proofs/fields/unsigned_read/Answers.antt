@@ -1,6 +1,5 @@
 -- Each arm tells what its answer tells. Assumes nothing.
 use mathlib.Core.Path.{◌∙◌}
-use borrow.Author.Rules.{rules}
 use Rattle.bits.specs.Answers.{told_unsigned}
 use Rattle.peerivolt.specs.Fields.{reading_values}
 use Rattle.peerivolt.proofs.AnswerLaws.{tells}

@@ -1,6 +1,5 @@
 -- Each arm tells what is measured. Assumes nothing.
 use mathlib.Core.Path.{subst, ◌∙◌}
-use borrow.Author.Rules.{rules}
 use Rattle.bits.specs.Told.{Accepted}
 use Rattle.observations.specs.Measured.{IsNumber}
 use Rattle.peerivolt.specs.Message1001.{measured_values}

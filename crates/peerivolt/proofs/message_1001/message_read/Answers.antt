@@ -1,6 +1,5 @@
 -- Each arm tells what its answer tells. Assumes nothing.
 use mathlib.Core.Path.{◌∙◌}
-use borrow.Author.Rules.{rules}
 use Rattle.observations.specs.Answers.{told_read}
 use Rattle.peerivolt.specs.Message1001.{seen_values}
 use Rattle.peerivolt.proofs.AnswerLaws.{tells}

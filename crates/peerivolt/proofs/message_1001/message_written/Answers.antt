@@ -1,6 +1,5 @@
 -- Each arm tells what its answer tells. Assumes nothing.
 use mathlib.Core.Path.{◌∙◌}
-use borrow.Author.Rules.{rules}
 use Rattle.observations.specs.Answers.{told_written}
 use Rattle.peerivolt.specs.Fields.{end_values}
 use Rattle.peerivolt.proofs.AnswerLaws.{tells}

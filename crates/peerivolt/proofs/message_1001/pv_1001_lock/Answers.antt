@@ -1,6 +1,5 @@
 -- The raw number is measured, and the answer goes into the extra area. Assumes nothing.
 use mathlib.Core.Path.{sym, subst, ◌∙◌}
-use borrow.Author.Rules.{rules}
 use Rattle.observations.specs.Measured.{IsNumber}
 use Rattle.peerivolt.specs.Message1001.{measured_values}
 use Rattle.peerivolt.proofs.AnswerLaws.{not_read, found}

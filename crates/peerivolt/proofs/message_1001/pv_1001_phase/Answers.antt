@@ -1,6 +1,5 @@
 -- The raw number is measured, and the answer goes into the extra area. Assumes nothing.
 use mathlib.Core.Path.{sym, ap, subst, ◌∙◌}
-use borrow.Author.Rules.{rules}
 use Rattle.observations.specs.Measured.{phase_of, IsNumber}
 use Rattle.observations.proofs.PhaseLaws.{same_32}
 use Rattle.observations.proofs.MeasuredLaws.{phase_is}

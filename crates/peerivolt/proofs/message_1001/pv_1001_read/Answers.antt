@@ -1,6 +1,5 @@
 -- The message is read, and the answer goes into the extra area. Assumes nothing.
 use mathlib.Core.Path.{◌∙◌}
-use borrow.Author.Rules.{rules}
 use Rattle.peerivolt.specs.Message1001.{seen_values}
 use Rattle.peerivolt.proofs.AnswerLaws.{not_sized, sized}
 use Rattle.peerivolt.proofs.message_1001.pv_1001_read.Goals as goal

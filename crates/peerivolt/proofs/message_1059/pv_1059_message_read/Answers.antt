@@ -1,6 +1,5 @@
 -- The message is read, and the answer goes into the extra area. Assumes nothing.
 use mathlib.Core.Path.{◌∙◌}
-use borrow.Author.Rules.{rules}
 use Rattle.peerivolt.specs.Messages.{message1059_values}
 use Rattle.peerivolt.proofs.AnswerLaws.{not_sized, sized}
 use Rattle.peerivolt.proofs.message_1059.pv_1059_message_read.Goals as goal

@@ -1,6 +1,5 @@
 -- Each arm tells what its answer tells. Assumes nothing.
 use mathlib.Core.Path.{◌∙◌}
-use borrow.Author.Rules.{rules}
 use Rattle.whole.specs.Answers.{told_message1230}
 use Rattle.peerivolt.specs.Messages.{message1230_values}
 use Rattle.peerivolt.proofs.AnswerLaws.{tells}

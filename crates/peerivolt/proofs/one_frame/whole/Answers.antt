@@ -1,7 +1,6 @@
 -- A number is there, or it is absent. Assumes nothing.
 use mathlib.Core.Path.{sym, ap}
 use mathlib.Core.List.{[], ◌∷◌}
-use borrow.Author.Rules.{rules}
 use Rattle.frames.specs.declared.frame.Number.{Number}
 use Rattle.frames.specs.Answers.{told_number}
 use Rattle.peerivolt.specs.Extra.{numbers, spread}

@@ -1,6 +1,5 @@
 -- A wrong size returns at once; else what closing answers goes into the extra area. Assumes nothing.
 use mathlib.Core.Path.{◌∙◌}
-use borrow.Author.Rules.{rules}
 use Rattle.peerivolt.proofs.ClosingLaws.{not_closed, not_closing, closed}
 use Rattle.peerivolt.proofs.recording_end.pv_close.Goals as goal
 

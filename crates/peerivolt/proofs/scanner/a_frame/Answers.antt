@@ -1,5 +1,4 @@
 -- The kind in its number, and the other numbers as they are. Assumes nothing.
-use borrow.Author.Rules.{rules}
 use Rattle.frames.specs.Answers.{known, told_kind}
 use Rattle.peerivolt.proofs.AnswerLaws.{kind_told}
 use Rattle.peerivolt.proofs.scanner.a_frame.Goals as goal

@@ -1,6 +1,5 @@
 -- Each arm tells what its answer tells. Assumes nothing.
 use mathlib.Core.Path.{◌∙◌}
-use borrow.Author.Rules.{rules}
 use Rattle.frames.specs.Answers.{told_fed}
 use Rattle.peerivolt.specs.Scanner.{fed_values}
 use Rattle.peerivolt.proofs.AnswerLaws.{tells}

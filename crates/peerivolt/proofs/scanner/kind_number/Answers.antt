@@ -1,6 +1,5 @@
 -- Each kind has its number. Assumes nothing.
 use mathlib.Core.Path.{sym, ap}
-use borrow.Author.Rules.{rules}
 use Rattle.frames.specs.Answers.{told_kind}
 use Rattle.peerivolt.specs.Scanner.{kind_number}
 use Rattle.peerivolt.proofs.scanner.kind_number.Goals as goal

@@ -1,6 +1,5 @@
 -- A wrong size returns at once; else the scanner's answer goes into the extra area. Assumes nothing.
 use mathlib.Core.Path.{◌∙◌}
-use borrow.Author.Rules.{rules}
 use Rattle.peerivolt.proofs.AnswerLaws.{not_fed, not_held, fed}
 use Rattle.peerivolt.proofs.scanner.pv_feed.Goals as goal
 

@@ -1,6 +1,5 @@
 -- Each arm tells what its answer tells. Assumes nothing.
 use mathlib.Core.Path.{◌∙◌}
-use borrow.Author.Rules.{rules}
 use Rattle.bits.specs.Told.{Accepted}
 use Rattle.messages.specs.Answers.{found_number}
 use Rattle.peerivolt.specs.Signals.{number_values}

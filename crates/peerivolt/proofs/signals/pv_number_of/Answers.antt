@@ -1,6 +1,5 @@
 -- The call reads, and its answer goes into the extra area. Assumes nothing.
 use mathlib.Core.Path.{◌∙◌}
-use borrow.Author.Rules.{rules}
 use Rattle.peerivolt.specs.Signals.{number_values}
 use Rattle.peerivolt.proofs.AnswerLaws.{not_read, found}
 use Rattle.peerivolt.proofs.signals.pv_number_of.Goals as goal

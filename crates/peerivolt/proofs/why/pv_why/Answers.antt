@@ -1,6 +1,5 @@
 -- The call asks for the fate, and its answer goes into the extra area. Assumes nothing.
 use mathlib.Core.Path.{◌∙◌}
-use borrow.Author.Rules.{rules}
 use Rattle.peerivolt.specs.Why.{fate_values}
 use Rattle.peerivolt.proofs.AnswerLaws.{not_read, read}
 use Rattle.peerivolt.proofs.why.pv_why.Goals as goal

@@ -1,6 +1,5 @@
 -- Each arm tells what its answer tells. Assumes nothing.
 use mathlib.Core.Path.{◌∙◌}
-use borrow.Author.Rules.{rules}
 use Rattle.frames.specs.Fate.{told_fate}
 use Rattle.peerivolt.specs.Why.{fate_values}
 use Rattle.peerivolt.proofs.AnswerLaws.{tells}
