@@ -10,7 +10,7 @@ returns-then-n-gt1023 c = simp (lt-ltb _ _ c.if-n-gt1023.true)
 
 pub returns-then-width-eq0 : goal.returns-then-width-eq0
 unfolding limits_of
-returns-then-width-eq0 c = simp (le-ltb _ _ c.if-n-gt1023.false, eq-eqb _ _ c.if-width-eq0.true)
+returns-then-width-eq0 c = simp (le-ltb 1023 c.args.n (omega arith), eq-eqb _ _ c.if-width-eq0.true)
 
 pub returns-then-width-lt65 : goal.returns-then-width-lt65
 unfolding limits_of

@@ -6,9 +6,7 @@ use Rattle.frames.specs.Answers.{told_fed}
 use Rattle.frames.proofs.close.ended.Goals as goal
 
 pub returns-in-More : goal.returns-in-More
-returns-in-More c =
-    ap (λ x. Accepted (Done c.in-More.skipped x)) c.reset.ensures
-    ∙ ap (λ r. closed_by (told_fed r)) (sym c.in-More.is)
+returns-in-More c = rw c.in-More.is cc
 
 pub returns-in-Frame : goal.returns-in-Frame
 returns-in-Frame c = ap (λ r. closed_by (told_fed r)) (sym c.in-Frame.is)

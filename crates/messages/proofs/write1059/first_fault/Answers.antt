@@ -21,21 +21,21 @@ pub returns-then-not-known : goal.returns-then-not-known
 returns-then-not-known c =
     let a = c.args in
     let l = c.loop-i in
-    sym (l.invariant.1 ∙ sym (is_signal_lem a.mask a.satellites.now a.signals.now a.biases.now c.requires.0 c.requires.1 l.i c.loop-i-test.true c.if-satellite-gt63.false (sym c.in_mask-known.ensures ∙ c.if-not-known.true)))
+    sym (l.invariant.1 ∙ sym (is_signal_lem a.mask a.satellites.now a.signals.now a.biases.now c.requires.0 c.requires.1 l.i c.loop-i-test.true (omega arith) (sym c.in_mask-known.ensures ∙ c.if-not-known.true)))
 
 pub returns-then-not-fits : goal.returns-then-not-fits
 returns-then-not-fits c =
     let a = c.args in
     let l = c.loop-i in
     let e = c.fits_bias-fits.ensures ∙ ap (fits_twos 14) (same_16 (get_or a.biases.now l.i (pos 0)) (omega arith)) in
-    sym (l.invariant.1 ∙ sym (is_range a.mask a.satellites.now a.signals.now a.biases.now c.requires.0 c.requires.1 l.i c.loop-i-test.true c.if-satellite-gt63.false (sym c.in_mask-known.ensures ∙ c.if-not-known.false) (sym e ∙ c.if-not-fits.true)))
+    sym (l.invariant.1 ∙ sym (is_range a.mask a.satellites.now a.signals.now a.biases.now c.requires.0 c.requires.1 l.i c.loop-i-test.true (omega arith) (sym c.in_mask-known.ensures ∙ assumption) (sym e ∙ c.if-not-fits.true)))
 
 pub loop-i-preserved : goal.loop-i-preserved
 loop-i-preserved c =
     let a = c.args in
     let l = c.loop-i in
     let e = c.fits_bias-fits.ensures ∙ ap (fits_twos 14) (same_16 (get_or a.biases.now l.i (pos 0)) (omega arith)) in
-    (omega arith, l.invariant.1 ∙ is_fine a.mask a.satellites.now a.signals.now a.biases.now c.requires.0 c.requires.1 l.i c.loop-i-test.true c.if-satellite-gt63.false (sym c.in_mask-known.ensures ∙ c.if-not-known.false) (sym e ∙ c.if-not-fits.false))
+    (omega arith, l.invariant.1 ∙ is_fine a.mask a.satellites.now a.signals.now a.biases.now c.requires.0 c.requires.1 l.i c.loop-i-test.true (omega arith) (sym c.in_mask-known.ensures ∙ assumption) (sym e ∙ c.if-not-fits.false))
 
 pub returns : goal.returns
 returns c =

@@ -10,4 +10,4 @@ pub returns-then-edition-eq0 : goal.returns-then-edition-eq0
 returns-then-edition-eq0 c = rw c.if-edition-eq0.true
 
 pub returns : goal.returns
-returns c = let e = c.args.edition in ap (λ (b : Bool). b && ltb e 3) (sym (lt-ltb 0 e (omega (arith, c.if-edition-eq0.false))))
+returns c = let e = c.args.edition in ap (λ (b : Bool). b && ltb e 3) (sym (lt-ltb 0 e (omega arith)))
