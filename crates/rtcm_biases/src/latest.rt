@@ -91,9 +91,7 @@ fn open(
     let mut bytes = [0u8; 1029];
     let mut account = reading::start();
     let mut sum = before;
-    let mut turns = u64::MAX;
-    while turns > 0 {
-        turns -= 1;
+    for _ in 0..u64::MAX {
         match reading::next(rt, source, name, &mut held, &mut piece, &mut bytes, account) {
             Step::Frame {
                 place: _,
@@ -171,14 +169,12 @@ fn records(
     entries: &mut [[u16; 7]; 512],
 ) -> u64 {
     let mut lost: u64 = 0;
-    let mut i: usize = 0;
-    while i < 422 {
+    for i in 0..422 {
         if count <= i {
             return lost;
         }
         let more = one(header, satellites[i], signals[i], biases[i], entries);
         lost = num::wrapping_add_u64(lost, more);
-        i += 1;
     }
     lost
 }
@@ -269,8 +265,7 @@ fn groups(
     out: &mut [u8; 65536],
     at: &mut usize,
 ) -> bool {
-    let mut i: usize = 0;
-    while i < 512 {
+    for i in 0..512 {
         let e = entries[i];
         if is_first(e, i, entries) {
             group(rt, e, edition, entries, out, at);
@@ -278,7 +273,6 @@ fn groups(
                 return false;
             }
         }
-        i += 1;
     }
     true
 }
@@ -288,15 +282,13 @@ fn is_first(e: [u16; 7], i: usize, entries: &[[u16; 7]; 512]) -> bool {
     if e[0] == 0 {
         return false;
     }
-    let mut j: usize = 0;
-    while j < 512 {
+    for j in 0..512 {
         if i <= j {
             return true;
         }
         if is_of(entries[j], e) {
             return false;
         }
-        j += 1;
     }
     true
 }
@@ -329,13 +321,11 @@ fn group(
         at,
         b"    satellite  signal       raw    metres   IOD\n",
     );
-    let mut i: usize = 0;
-    while i < 512 {
+    for i in 0..512 {
         let d = entries[i];
         if is_of(d, e) {
             row(rt, d, edition, entries, out, at);
         }
-        i += 1;
     }
 }
 

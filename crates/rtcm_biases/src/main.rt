@@ -147,9 +147,7 @@ fn show(
     let mut bytes = [0u8; 1029];
     let mut account = reading::start();
     let mut tally = table::none();
-    let mut turns = u64::MAX;
-    while turns > 0 {
-        turns -= 1;
+    for _ in 0..u64::MAX {
         match reading::next(rt, source, name, &mut held, &mut piece, &mut bytes, account) {
             Step::Frame {
                 place,

@@ -252,9 +252,7 @@ fn number(digits: &[u8]) -> Bit {
         return Bit::Wrong;
     }
     let mut bit: usize = 0;
-    let mut i: usize = 0;
-    while i < digits.len() {
-        let d = digits[i];
+    for &d in digits {
         if d < b'0' {
             return Bit::Wrong;
         }
@@ -265,7 +263,6 @@ fn number(digits: &[u8]) -> Bit {
             return Bit::Wrong;
         }
         bit = bit * 10 + (d - b'0') as usize;
-        i += 1;
     }
     Bit::At(bit)
 }

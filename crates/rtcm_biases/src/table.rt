@@ -215,8 +215,7 @@ fn rows(
     at: &mut usize,
 ) {
     text(rt, out, at, b"    satellite  signal       raw    metres\n");
-    let mut i: usize = 0;
-    while i < 422 {
+    for i in 0..422 {
         if count <= i {
             return;
         }
@@ -229,7 +228,6 @@ fn rows(
             at,
         );
         values(rt, number, biases[i], out, at);
-        i += 1;
     }
 }
 

@@ -187,8 +187,7 @@ fn rows(
     out: &mut [u8; 65536],
     at: &mut usize,
 ) {
-    let mut i: usize = 0;
-    while i < 31 {
+    for i in 0..31 {
         if count <= i {
             return;
         }
@@ -205,7 +204,6 @@ fn rows(
         pseudorange(rt, pseudoranges[i], out, at);
         phase(rt, phases[i], out, at);
         phrase(rt, out, at, b", lock ", wide(locks[i]), 3, b"\n");
-        i += 1;
     }
 }
 

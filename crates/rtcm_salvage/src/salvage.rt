@@ -99,9 +99,7 @@ fn feed(
     let mut piece = [0u8; 65536];
     let mut frame = [0u8; 1029];
     let mut now = over(reading::start(), list::none(), End::On);
-    let mut turns = u64::MAX;
-    while turns > 0 {
-        turns -= 1;
+    for _ in 0..u64::MAX {
         now = fed(
             rt, source, name, log, salvaged, now, held, &mut piece, &mut frame, out, at,
         );
@@ -190,9 +188,7 @@ fn close(
 {
     let mut frame = [0u8; 1029];
     let mut now = over(account, given, End::On);
-    let mut turns: u32 = 1030;
-    while turns > 0 {
-        turns -= 1;
+    for _ in 0..1030u32 {
         now = closed(rt, log, now, held, &mut frame, out, at);
         let end = now.end;
         if !is_on(end) {
@@ -259,8 +255,7 @@ fn skipped(
     let n = num::wrapping_sub_u64(to.skipped, from.skipped);
     let start = num::wrapping_add_u64(from.framed, from.skipped);
     let mut given = listed;
-    let mut i: u64 = 0;
-    while i < n {
+    for i in 0..n {
         let byte = skips::byte_at(before, from.held, piece, from.from, i as usize);
         let why = list::of_skip(reason::skipped(byte));
         given = list::add(
@@ -272,7 +267,6 @@ fn skipped(
             num::wrapping_add_u64(start, i),
             why,
         );
-        i += 1;
     }
     given
 }
@@ -292,8 +286,7 @@ fn given_up(
     let start = num::wrapping_add_u64(from.framed, from.skipped);
     let all = reading::frame_of(before, from.held);
     let mut given = listed;
-    let mut i: u64 = 0;
-    while i < n {
+    for i in 0..n {
         let why = list::of_ruled(reason::at(all, i as usize));
         given = list::add(
             rt,
@@ -304,7 +297,6 @@ fn given_up(
             num::wrapping_add_u64(start, i),
             why,
         );
-        i += 1;
     }
     given
 }

@@ -177,9 +177,7 @@ fn scan(
     let mut piece = [0u8; 65536];
     let mut frame = [0u8; 1029];
     let mut now = over(reading::start_in(ways.mode), skips::none(), End::On);
-    let mut turns = u64::MAX;
-    while turns > 0 {
-        turns -= 1;
+    for _ in 0..u64::MAX {
         now = turned(
             rt, source, name, ways, now, &mut held, &mut piece, &mut frame, numbers, out, at,
         );
@@ -274,11 +272,9 @@ fn skipped(
 ) -> Skips {
     let n = num::wrapping_sub_u64(to.skipped, from.skipped);
     let mut skips = counted;
-    let mut i: u64 = 0;
-    while i < n {
+    for i in 0..n {
         let byte = skips::byte_at(before, from.held, piece, from.from, i as usize);
         skips = skips::count(skips, byte);
-        i += 1;
     }
     skips
 }

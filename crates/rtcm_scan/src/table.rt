@@ -164,10 +164,8 @@ fn sum(rt: &HostRuntime, out: &mut [u8; 65536], at: &mut usize, account: Account
 }
 
 fn by_number(rt: &HostRuntime, out: &mut [u8; 65536], at: &mut usize, numbers: &[u64; 4097]) {
-    let mut i: usize = 0;
-    while i < 4097 {
+    for i in 0..4097 {
         of_number(rt, out, at, i as u64, numbers[i]);
-        i += 1;
     }
 }
 

@@ -104,9 +104,7 @@ fn place_at(rt: &HostRuntime, i: usize) -> Place {
 // The number that the digits make. One of more than six digits lies past every recording, as 65,536 does.
 fn digits(word: &[u8]) -> Place {
     let mut place: usize = 0;
-    let mut i: usize = 0;
-    while i < word.len() {
-        let d = word[i];
+    for &d in word {
         if d < b'0' {
             return Place::None;
         }
@@ -117,7 +115,6 @@ fn digits(word: &[u8]) -> Place {
             return Place::At(65536);
         }
         place = place * 10 + (d - b'0') as usize;
-        i += 1;
     }
     Place::At(place)
 }
