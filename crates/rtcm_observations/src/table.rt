@@ -58,6 +58,7 @@ pub fn message(
         &mut phases,
         &mut locks,
     );
+    let after = counted(&answer, tally);
     let count = heading(rt, answer, out, at);
     rows(
         rt,
@@ -70,17 +71,13 @@ pub fn message(
         out,
         at,
     );
-    counted(answer, tally)
+    after
 }
 
 // One message more.
-fn counted(answer: MessageRead, tally: Tally) -> Tally {
+fn counted(answer: &MessageRead, tally: Tally) -> Tally {
     match answer {
-        MessageRead::Observations {
-            header: _,
-            count: _,
-            end: _,
-        } => Tally {
+        MessageRead::Observations { .. } => Tally {
             read: num::wrapping_add_u64(tally.read, 1),
             refused: tally.refused,
         },
