@@ -1,16 +1,20 @@
 // What is said on standard error.
-ghost use Rattle.std.specs.Prelude.{◌≤◌};
+ghost use Rattle.std.specs.Prelude.{◌≡◌, ◌≤◌};
 
 use std::io::{Print, Write};
 use std::{io, str};
 
 // Says the words. Where that cannot be done, there is no place left to tell of it.
-pub fn say(rt: &HostRuntime, words: &[u8]) {
+pub fn say(rt: &HostRuntime, words: &[u8])
+    ensures { result ≡ tt }
+{
     let _ = Print::write_all(&rt.stderr(), words);
 }
 
 // Says in a line what failed, as the caller names it, and the system's text of the error.
-pub fn fail(rt: &HostRuntime, what: &[u8], error: &io::Error) {
+pub fn fail(rt: &HostRuntime, what: &[u8], error: &io::Error)
+    ensures { result ≡ tt }
+{
     let mut area = [0u8; 256];
     let n = put(error, &mut area);
     say(rt, what);

@@ -59,7 +59,7 @@ fn write_first(rt: &HostRuntime, out: &[u8], n: usize) -> bool {
 }
 
 // Writes the words to standard output. Where they cannot be written, that is said on standard error, and the answer is false.
-pub fn write(rt: &HostRuntime, words: &[u8]) -> bool {
+fn write(rt: &HostRuntime, words: &[u8]) -> bool {
     match Print::write_all(rt, words) {
         Ok(()) => true,
         Err(error) => {

@@ -1,11 +1,12 @@
 // The arguments of a program that goes through recordings, and what it says of them on standard error.
-ghost use Rattle.std.specs.Prelude.{◌≡◌, ◌≤◌, true, length, IfSome};
-ghost use Rattle.reading.specs.Arguments.{IsKind, IsOperand};
+ghost use Rattle.std.specs.Prelude.{◌≡◌, ◌<◌, ◌≤◌, ◌^◌, true, length, IfOk, IfSome};
+ghost use Rattle.reading.specs.Arguments.{IsKind, IsOperand, IsFile};
 
 use crate::{Account, Source};
-use printing::{fail, say, write};
+use printing::{fail, say};
 use std::env::{Env, FillError};
 use std::fs::File;
+use std::io::Print;
 use std::{io, str};
 
 // The system's numbers for a word that is not there, one that is too long, and a name that is no text.
@@ -31,7 +32,9 @@ pub enum Kind {
 }
 
 // How many arguments there are, the program's own name among them.
-pub fn count(rt: &HostRuntime) -> usize {
+pub fn count(rt: &HostRuntime) -> usize
+    ensures { result < 2 ^ 64 }
+{
     let mut front = [0u8; 1];
     for i in 0..usize::MAX {
         if let Err(FillError::NotPresent) = rt.arg(i, &mut front) {
@@ -120,7 +123,9 @@ pub fn operand_of(word: &[u8]) -> Kind
 }
 
 // Opens a file. Where it cannot be opened, that is said, and the answer is none.
-pub fn open(rt: &HostRuntime, path: &[u8]) -> Option<Source> {
+pub fn open(rt: &HostRuntime, path: &[u8]) -> Option<Source>
+    ensures { IfSome result IsFile }
+{
     match open_text(rt, path) {
         Ok(file) => Some(Source::File(file)),
         Err(error) => {
@@ -135,7 +140,9 @@ fn open_text(rt: &HostRuntime, path: &[u8]) -> io::Result<File> {
 }
 
 // The path as text, which the system's files are named by.
-pub fn text_of(path: &[u8]) -> io::Result<&str> {
+pub fn text_of(path: &[u8]) -> io::Result<&str>
+    ensures { IfOk result (λ t. t.now ≡ path.now) }
+{
     match str::from_utf8(path) {
         Ok(text) => Ok(text),
         Err(_) => Err(io::Error::from_raw_os_error(NO_TEXT)),
@@ -203,18 +210,22 @@ pub fn failed(rt: &HostRuntime, program: &[u8])
 pub fn version(rt: &HostRuntime, program: &[u8])
     ensures { result ≡ tt }
 {
-    if write(rt, program) {
-        tell(rt, program, b" 0.2.0\n");
-        return;
+    match Print::write_all(rt, program) {
+        Ok(()) => tell(rt, program, b" 0.2.0\n"),
+        Err(error) => unwritten(rt, program, &error),
     }
-    failed(rt, program);
 }
 
 // Writes what the program tells of itself. Where it cannot be written, that is said, and the program failed.
 pub fn tell(rt: &HostRuntime, program: &[u8], words: &[u8])
     ensures { result ≡ tt }
 {
-    if !write(rt, words) {
-        failed(rt, program);
+    if let Err(error) = Print::write_all(rt, words) {
+        unwritten(rt, program, &error);
     }
+}
+
+fn unwritten(rt: &HostRuntime, program: &[u8], error: &io::Error) {
+    fail(rt, b"standard output", error);
+    failed(rt, program);
 }

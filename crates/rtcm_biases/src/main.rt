@@ -9,7 +9,7 @@ mod table;
 use frames::frame;
 use options::Settings;
 use reading::arguments::Kind;
-use reading::{Source, Step, arguments};
+use reading::{Account, Source, Step, arguments};
 use table::Tally;
 
 // What a recording came to.
@@ -164,17 +164,27 @@ fn show(
                 table::opening(rt, name, account, out, at);
                 account = a;
             }
-            Step::End(a) => {
-                arguments::empty(rt, name, a);
-                table::closing(rt, a, tally, out, at);
-                return End::Well;
-            }
+            Step::End(a) => return ended(rt, name, a, tally, out, at),
             Step::Failed(a) => {
                 table::closing(rt, a, tally, out, at);
                 return End::Failed;
             }
         }
     }
+    End::Well
+}
+
+// What stands behind the last message. A recording in which nothing was is named on standard error.
+fn ended(
+    rt: &HostRuntime,
+    name: &[u8],
+    account: Account,
+    tally: Tally,
+    out: &mut [u8; 65536],
+    at: &mut usize,
+) -> End {
+    arguments::empty(rt, name, account);
+    table::closing(rt, account, tally, out, at);
     End::Well
 }
 
@@ -191,31 +201,20 @@ fn show_frame(
 ) -> Tally {
     let frame = reading::frame_of(bytes, length);
     let number = reading::number_of(frame);
-    if number == 1059 {
-        return table::message(
-            rt,
-            number,
-            frame::data_of(frame),
-            place,
-            settings.of_1059,
-            settings.edition,
-            tally,
-            out,
-            at,
-        );
-    }
-    if number == 1230 {
-        return table::message(
-            rt,
-            number,
-            frame::data_of(frame),
-            place,
-            settings.of_1230,
-            settings.edition,
-            tally,
-            out,
-            at,
-        );
-    }
-    tally
+    let start = match number {
+        1059 => settings.of_1059,
+        1230 => settings.of_1230,
+        _ => return tally,
+    };
+    table::message(
+        rt,
+        number,
+        frame::data_of(frame),
+        place,
+        start,
+        settings.edition,
+        tally,
+        out,
+        at,
+    )
 }

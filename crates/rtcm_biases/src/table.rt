@@ -65,8 +65,7 @@ pub fn message(
         &mut biases,
     );
     let Found::Records { head, count, end } = found else {
-        refused(rt, number, place, found, out, at);
-        return one_refused(tally);
+        return refused(rt, number, place, found, tally, out, at);
     };
     accepted(rt, number, place, head, count, out, at);
     rows(
@@ -116,11 +115,13 @@ fn refused(
     number: u64,
     place: u64,
     found: Found,
+    tally: Tally,
     out: &mut [u8; 65536],
     at: &mut usize,
-) {
+) -> Tally {
     heading(rt, number, place, out, at);
     refusal(rt, found, out, at);
+    one_refused(tally)
 }
 
 // The head of a message: its number and its place.
@@ -368,18 +369,23 @@ pub fn closing(
     }
     phrase(rt, out, at, b"  ", tally.read, 0, b" blocks read, ");
     phrase(rt, out, at, b"", tally.refused, 0, b" refused");
-    if tally.unread != 0 {
+    warning(rt, tally.unread, out, at);
+    text(rt, out, at, b"\n\n");
+}
+
+// That some blocks may start elsewhere, if there are such.
+fn warning(rt: &HostRuntime, unread: u64, out: &mut [u8; 65536], at: &mut usize) {
+    if unread != 0 {
         phrase(
             rt,
             out,
             at,
             b"; WARNING, ",
-            tally.unread,
+            unread,
             0,
             b" leave eight or more bits unread",
         );
     }
-    text(rt, out, at, b"\n\n");
 }
 
 fn is_none(tally: Tally) -> bool {

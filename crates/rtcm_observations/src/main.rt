@@ -5,7 +5,7 @@ mod table;
 
 use frames::frame;
 use reading::arguments::Kind;
-use reading::{Source, Step, arguments, asked};
+use reading::{Account, Source, Step, arguments, asked};
 use table::Tally;
 
 // What a recording came to.
@@ -159,17 +159,27 @@ fn show(
                 table::opening(rt, name, account, out, at);
                 account = a;
             }
-            Step::End(a) => {
-                arguments::empty(rt, name, a);
-                table::closing(rt, a, tally, out, at);
-                return End::Well;
-            }
+            Step::End(a) => return ended(rt, name, a, tally, out, at),
             Step::Failed(a) => {
                 table::closing(rt, a, tally, out, at);
                 return End::Failed;
             }
         }
     }
+    End::Well
+}
+
+// What stands behind the last message. A recording in which nothing was is named on standard error.
+fn ended(
+    rt: &HostRuntime,
+    name: &[u8],
+    account: Account,
+    tally: Tally,
+    out: &mut [u8; 65536],
+    at: &mut usize,
+) -> End {
+    arguments::empty(rt, name, account);
+    table::closing(rt, account, tally, out, at);
     End::Well
 }
 

@@ -6,6 +6,7 @@ use crate::list;
 use crate::list::{Given, Log};
 use closing::reason;
 use reading::{Account, Source, Step, Taken, arguments, skips};
+use std::io::Print;
 use std::num;
 
 // What a part of the work came to.
@@ -234,10 +235,13 @@ fn written(rt: &HostRuntime, left_out: bool, frame: &[u8; 1029], length: usize) 
     if left_out {
         return End::On;
     }
-    if printing::write(rt, reading::frame_of(frame, length)) {
-        return End::On;
+    match Print::write_all(rt, reading::frame_of(frame, length)) {
+        Ok(()) => End::On,
+        Err(error) => {
+            printing::fail(rt, b"standard output", &error);
+            End::Stopped
+        }
     }
-    End::Stopped
 }
 
 // Lists what a feeding call skipped: the first bytes of those held before it and of the piece.
