@@ -1,5 +1,5 @@
 -- What was held and taken is skipped, in the frame or held then, and the rest of the piece is left.
-use Rattle.std.proofs.Common.{◌≡◌, ℕ, ◌-◌, ◌≤◌, length, subst, arith}
+use Rattle.std.proofs.Common.{◌≡◌, ℕ, ◌-◌, length, subst, arith}
 use Rattle.bits.specs.Outcome.{outcome}
 use Rattle.frames.specs.Modes.{framing_of}
 use Rattle.frames.specs.Call.{Scanner, feed_of}
@@ -7,7 +7,6 @@ use Rattle.frames.specs.Answers.{known, told_kind, told_fed}
 use Rattle.frames.specs.declared.scanner.Fed.TheVariants as D
 use Rattle.frames.proofs.ModeLaws.{lawful}
 use Rattle.frames.proofs.AnswerLaws.{frame_keeps, more_keeps}
-use Rattle.reading.specs.Account.{Right}
 use Rattle.reading.proofs.AccountLaws.{frame_taken}
 use Rattle.reading.proofs.take.Goals as goal
 
