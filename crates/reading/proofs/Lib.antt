@@ -1,6 +1,2 @@
-pub mod SumLaws
-pub mod AccountLaws
-pub mod NumberLaws
-pub mod ArgumentLaws
-pub mod AskedLaws
-pub mod SkipLaws
+mod AccountLaws
+mod AskedLaws

@@ -1,7 +1,9 @@
 -- What an argument is. Assumes nothing.
-use Rattle.std.specs.Prelude.{◌≡◌, ℕ, ◌⊎◌, List, [], ◌∷◌, ℤ, pos, negsuc, ◌≢◌, slice_index}
+use Rattle.std.specs.Prelude.{◌≡◌, ◌⊎◌, ℕ, List, [], ◌∷◌, ◌≢◌, slice_index}
 use Rattle.reading.specs.declared.arguments.Kind.{Kind}
 use Rattle.reading.specs.declared.arguments.Kind.TheVariants.{Help, Version, Own, Rest, Unknown, Input, File}
+use Rattle.reading.specs.declared.source.Source.{Source}
+use Rattle.reading.specs.declared.source.Source.TheVariants as S
 
 -- `--help`
 abbrev pub help : List ℕ
@@ -55,7 +57,7 @@ IsOperand w Own = ⊥
 IsOperand w Rest = ⊥
 IsOperand w Unknown = ⊥
 
--- -1, or a number from 0 on
-abbrev pub Descriptor : ℤ → Type 0
-Descriptor (pos n) = Unit
-Descriptor (negsuc n) = n ≡ 0
+-- what is read from is an open file, and not standard input
+abbrev pub IsFile : Source → Type 0
+IsFile (S.Input i) = ⊥
+IsFile (S.File f) = Unit

@@ -1,13 +1,23 @@
 // The arguments of a program that goes through recordings, and what it says of them on standard error.
-ghost use Rattle.std.specs.Prelude.{◌≡◌};
-ghost use Rattle.reading.specs.Arguments.{IsKind, IsOperand, Descriptor};
+ghost use Rattle.std.specs.Prelude.{◌≡◌, ◌<◌, ◌≤◌, ◌^◌, true, length, IfOk, IfSome};
+ghost use Rattle.reading.specs.Arguments.{IsKind, IsOperand, IsFile};
 
-use crate::Account;
-use check::same;
-use libc::{STDERR_FILENO, STDOUT_FILENO};
+use crate::{Account, Source};
+use printing::{fail, say};
+use std::env::{Env, FillError};
+use std::fs::File;
+use std::io::Print;
+use std::{io, str};
+
+// The system's numbers for a word that is not there, one that is too long, and a name that is no text.
+const INVALID: i32 = 22;
+
+const TOO_LONG: i32 = 36;
+
+const NO_TEXT: i32 = 84;
 
 // What an argument is. An option begins with `-`; `-` alone is standard input; any other word names a file.
-#[derive(Drop)]
+#[derive(Clone, Copy)]
 pub enum Kind {
     // `--help` or `-h`.
     Help,
@@ -19,6 +29,56 @@ pub enum Kind {
     Unknown,
     Input,
     File,
+}
+
+// How many arguments there are, the program's own name among them.
+pub fn count(rt: &HostRuntime) -> usize
+    ensures { result < 2 ^ 64 }
+{
+    let mut front = [0u8; 1];
+    for i in 0..usize::MAX {
+        if let Err(FillError::NotPresent) = rt.arg(i, &mut front) {
+            return i;
+        }
+    }
+    usize::MAX
+}
+
+// Puts the word of argument i at the front of the area, and answers its length; 0 if there is none, or none that fits.
+pub fn word(rt: &HostRuntime, i: usize, area: &mut [u8; 4096]) -> usize
+    ensures { result ≤ length area.new }
+{
+    match rt.arg(i, area) {
+        Ok(n) => n,
+        Err(_) => 0,
+    }
+}
+
+// Puts the word of argument i at the front of the area, and answers its length. Where there is none that fits, that is said.
+pub fn named(rt: &HostRuntime, i: usize, area: &mut [u8; 4096]) -> Option<usize>
+    ensures { IfSome result (λ n. n ≤ length area.new) }
+{
+    match rt.arg(i, area) {
+        Ok(n) => Some(n),
+        Err(error) => {
+            fail(rt, b"argument", &wrong_word(error));
+            None
+        }
+    }
+}
+
+fn wrong_word(error: FillError) -> io::Error {
+    match error {
+        FillError::NotPresent => io::Error::from_raw_os_error(INVALID),
+        FillError::TooLong => io::Error::from_raw_os_error(TOO_LONG),
+    }
+}
+
+// Whether two words are the same.
+pub fn same(a: &[u8], b: &[u8]) -> bool
+    ensures { (result ≡ true → a.now ≡ b.now) × (a.now ≡ b.now → result ≡ true) }
+{
+    a == b
 }
 
 // What a word is to a program that has the option `own`.
@@ -62,91 +122,110 @@ pub fn operand_of(word: &[u8]) -> Kind
     Kind::File
 }
 
-// Opens a file, and answers its descriptor. Where it cannot be opened, that is said, and the answer is -1.
-pub fn open(path: &[u8]) -> i32
-    ensures { Descriptor result }
+// Opens a file. Where it cannot be opened, that is said, and the answer is none.
+pub fn open(rt: &HostRuntime, path: &[u8]) -> Option<Source>
+    ensures { IfSome result IsFile }
 {
-    let fd = os::open_read(path);
-    if fd < 0 {
-        os::fail(path);
-        return -1;
+    match open_text(rt, path) {
+        Ok(file) => Some(Source::File(file)),
+        Err(error) => {
+            fail(rt, path, &error);
+            None
+        }
     }
-    fd
+}
+
+fn open_text(rt: &HostRuntime, path: &[u8]) -> io::Result<File> {
+    File::open(rt, text_of(path)?)
+}
+
+// The path as text, which the system's files are named by.
+pub fn text_of(path: &[u8]) -> io::Result<&str>
+    ensures { IfOk result (λ t. t.now ≡ path.now) }
+{
+    match str::from_utf8(path) {
+        Ok(text) => Ok(text),
+        Err(_) => Err(io::Error::from_raw_os_error(NO_TEXT)),
+    }
 }
 
 // Says that argument i is no option of the program.
-pub fn unknown(program: &[u8], i: usize)
+pub fn unknown(rt: &HostRuntime, program: &[u8], i: usize)
     ensures { result ≡ tt }
 {
-    let mut word = io::buffer();
-    let n = os::arg(i, &mut word);
-    say(program, b": no such option: ");
-    say(&word[..n], b" (");
+    let mut area = [0u8; 4096];
+    let n = word(rt, i, &mut area);
+    say(rt, program);
+    say(rt, b": no such option: ");
+    say(rt, &area[..n]);
+    say(rt, b" (");
+    say(rt, program);
     say(
-        program,
+        rt,
         b" --help lists them; a file is named with ./ before its dash)\n",
     );
 }
 
 // Says that the arguments name no recording.
-pub fn no_file(program: &[u8])
+pub fn no_file(rt: &HostRuntime, program: &[u8])
     ensures { result ≡ tt }
 {
-    say(program, b": name a file, or - for standard input; ");
-    say(program, b" --help says more\n");
+    say(rt, program);
+    say(rt, b": name a file, or - for standard input; ");
+    say(rt, program);
+    say(rt, b" --help says more\n");
 }
 
 // Says that the words behind the options are not those that the program takes.
-pub fn misnamed(program: &[u8], wanted: &[u8])
+pub fn misnamed(rt: &HostRuntime, program: &[u8], wanted: &[u8])
     ensures { result ≡ tt }
 {
-    say(program, b": name ");
-    say(wanted, b"; ");
-    say(program, b" --help says more\n");
+    say(rt, program);
+    say(rt, b": name ");
+    say(rt, wanted);
+    say(rt, b"; ");
+    say(rt, program);
+    say(rt, b" --help says more\n");
 }
 
 // Says so if nothing was there to read.
-pub fn empty(name: &[u8], account: Account)
+pub fn empty(rt: &HostRuntime, name: &[u8], account: Account)
     ensures { result ≡ tt }
 {
     if account.bytes == 0 {
-        say(name, b": is empty\n");
+        say(rt, name);
+        say(rt, b": is empty\n");
     }
 }
 
 // Says that the program failed, on the last line. Its exit status is 0 whatever happens.
-pub fn failed(program: &[u8])
+pub fn failed(rt: &HostRuntime, program: &[u8])
     ensures { result ≡ tt }
 {
-    say(program, b": failed\n");
+    say(rt, program);
+    say(rt, b": failed\n");
 }
 
 // Writes the program's name and its version, that of the library.
-pub fn version(program: &[u8])
+pub fn version(rt: &HostRuntime, program: &[u8])
     ensures { result ≡ tt }
 {
-    if io::write_all(STDOUT_FILENO, program) {
-        tell(program, b" 0.2.0\n");
-        return;
+    match Print::write_all(rt, program) {
+        Ok(()) => tell(rt, program, b" 0.2.0\n"),
+        Err(error) => unwritten(rt, program, &error),
     }
-    unwritten(program);
 }
 
 // Writes what the program tells of itself. Where it cannot be written, that is said, and the program failed.
-pub fn tell(program: &[u8], words: &[u8])
+pub fn tell(rt: &HostRuntime, program: &[u8], words: &[u8])
     ensures { result ≡ tt }
 {
-    if !io::write_all(STDOUT_FILENO, words) {
-        unwritten(program);
+    if let Err(error) = Print::write_all(rt, words) {
+        unwritten(rt, program, &error);
     }
 }
 
-fn unwritten(program: &[u8]) {
-    os::fail(b"standard output");
-    failed(program);
-}
-
-fn say(name: &[u8], words: &[u8]) {
-    io::write_all(STDERR_FILENO, name);
-    io::write_all(STDERR_FILENO, words);
+fn unwritten(rt: &HostRuntime, program: &[u8], error: &io::Error) {
+    fail(rt, b"standard output", error);
+    failed(rt, program);
 }

@@ -7,7 +7,7 @@ use crate::arguments::Kind;
 
 // `unknown` is the place of the first option that is not known, `rest` that of `--`, and `first`, `second` and `third` are
 // those of words that are no options: the first, the second and the last of the further ones. 0 stands for none.
-#[derive(Drop)]
+#[derive(Clone, Copy)]
 pub struct Asked {
     pub help: bool,
     pub version: bool,
@@ -19,16 +19,13 @@ pub struct Asked {
 }
 
 // What all the words ask for.
-pub fn all() -> Asked
+pub fn all(rt: &HostRuntime) -> Asked
     ensures { Comes result }
 {
     let mut asked = nothing();
-    let count = os::arg_count();
-    let mut i: usize = 1;
-    while i < count {
-        let kind = kind_at(i, asked.rest);
+    for i in 1..arguments::count(rt) {
+        let kind = kind_at(rt, i, asked.rest);
         asked = noted(asked, kind, i);
-        i += 1;
     }
     asked
 }
@@ -101,9 +98,9 @@ fn first(a: usize, b: usize) -> usize
 }
 
 // What argument i is, where the place of `--` is `rest`.
-fn kind_at(i: usize, rest: usize) -> Kind {
-    let mut word = io::buffer();
-    let n = os::arg(i, &mut word);
+fn kind_at(rt: &HostRuntime, i: usize, rest: usize) -> Kind {
+    let mut word = [0u8; 4096];
+    let n = arguments::word(rt, i, &mut word);
     kind_of(&word[..n], i, rest)
 }
 

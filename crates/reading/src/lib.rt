@@ -15,12 +15,14 @@ pub mod asked;
 pub mod load;
 mod number;
 pub mod skips;
+mod source;
 
 pub use number::{frame_of, number_of};
+pub use source::Source;
 
 // How far a recording is read. Each byte is in a frame, skipped, held, or in the part of the piece from `from` to `to`,
 // which is not taken yet. Sums go round at 2^64. Mode 0 is RTCM only, 1 is RTCM and UBX.
-#[derive(Drop)]
+#[derive(Clone, Copy)]
 pub struct Account {
     pub bytes: u64,
     pub frames: u64,
@@ -88,9 +90,11 @@ pub fn start_in(mode: u32) -> Account
     }
 }
 
-// Hands out the next frame of the piece, or reads the next piece where there is none.
+// Hands out the next frame of the piece, or reads the next piece of the recording of that name where there is none.
 pub fn next(
-    fd: i32,
+    rt: &HostRuntime,
+    source: &mut Source,
+    name: &[u8],
     held: &mut [u8; 1029],
     piece: &mut [u8; 65536],
     frame: &mut [u8; 1029],
@@ -109,7 +113,7 @@ pub fn next(
             length,
             account: a,
         },
-        Taken::All(a) => refill(fd, piece, a),
+        Taken::All(a) => refill(rt, source, name, piece, a),
         Taken::Failed(a) => Step::Failed(a),
     }
 }
@@ -187,26 +191,24 @@ fn part(bytes: &[u8], from: usize, to: usize) -> &[u8]
     &bytes[from..to]
 }
 
-// Reads the next piece.
-pub fn refill(fd: i32, piece: &mut [u8; 65536], account: Account) -> Step
+// Reads the next piece of the recording of that name. Where it cannot be read, that is said.
+pub fn refill(
+    rt: &HostRuntime,
+    source: &mut Source,
+    name: &[u8],
+    piece: &mut [u8; 65536],
+    account: Account,
+) -> Step
     ensures { AllTaken account → RightStep result }
 {
-    read_on(fd, piece, account)
-}
-
-// Reads the next piece, as much of it as the area takes.
-fn read_on(fd: i32, piece: &mut [u8], account: Account) -> Step
-    ensures { AllTaken account → length piece.old ≤ 65536 → RightStep result }
-{
-    let got = libc::read(fd, piece);
-    if got < 0 {
-        return Step::Failed(account);
+    match source.read(piece) {
+        Ok(0) => Step::End(account),
+        Ok(n) => Step::Piece(grown(account, n)),
+        Err(error) => {
+            printing::fail(rt, name, &error);
+            Step::Failed(account)
+        }
     }
-    let n = io::count(got, piece);
-    if n == 0 {
-        return Step::End(account);
-    }
-    Step::Piece(grown(account, n))
 }
 
 // A frame is handed out. Before it are the bytes in frames and the skipped ones.

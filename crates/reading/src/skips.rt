@@ -5,7 +5,7 @@ ghost use Rattle.reading.specs.Skips.{byte_in, Counted};
 use std::num;
 
 // How many bytes were skipped that are neither D3 nor B5, that are D3, and that are B5. Sums go round at 2^64.
-#[derive(Drop)]
+#[derive(Clone, Copy)]
 pub struct Skips {
     pub others: u64,
     pub d3: u64,

@@ -5,13 +5,13 @@ use frames::frame;
 use messages::signals1059;
 use printing::{Amount, phrase, text, unsigned};
 use reading::arguments::Kind;
-use reading::{Step, arguments};
+use reading::{Source, Step, arguments};
 use std::num;
 use whole::answer::{Header1059, Message1059};
 use whole::read1059;
 
 // How many messages 1059 were read and how many refused, how many of their biases had no room, and whether all went well.
-#[derive(Drop)]
+#[derive(Clone, Copy)]
 struct Sum {
     read: u64,
     refused: u64,
@@ -20,7 +20,7 @@ struct Sum {
 }
 
 // Reads what the arguments name, one after another, and shows the cache; answers whether all went well.
-pub fn all(rest: usize) -> bool {
+pub fn all(rt: &HostRuntime, rest: usize) -> bool {
     let mut entries = [[0u16; 7]; 512];
     let mut sum = Sum {
         read: 0,
@@ -29,38 +29,44 @@ pub fn all(rest: usize) -> bool {
         is_well: true,
     };
     let mut settings = options::usual();
-    let count = os::arg_count();
-    let mut i: usize = 1;
-    while i < count {
-        settings = options::settings_at(i, rest, settings);
-        sum = argument(i, rest, sum, &mut entries);
-        i += 1;
+    for i in 1..arguments::count(rt) {
+        settings = options::settings_at(rt, i, rest, settings);
+        sum = argument(rt, i, rest, sum, &mut entries);
     }
-    shown(sum, settings.edition, &entries)
+    shown(rt, sum, settings.edition, &entries)
 }
 
 // Reads what argument i names, if it names a recording.
-fn argument(i: usize, rest: usize, sum: Sum, entries: &mut [[u16; 7]; 512]) -> Sum {
-    if options::is_number(i, rest) {
+fn argument(
+    rt: &HostRuntime,
+    i: usize,
+    rest: usize,
+    sum: Sum,
+    entries: &mut [[u16; 7]; 512],
+) -> Sum {
+    if options::is_number(rt, i, rest) {
         return sum;
     }
-    match options::kind_at(i, rest) {
-        Kind::File => file(i, sum, entries),
-        Kind::Input => open(0, b"standard input", sum, entries),
+    match options::kind_at(rt, i, rest) {
+        Kind::File => file(rt, i, sum, entries),
+        Kind::Input => open(
+            rt,
+            &mut Source::Input(rt.stdin()),
+            b"standard input",
+            sum,
+            entries,
+        ),
         _ => sum,
     }
 }
 
-fn file(i: usize, sum: Sum, entries: &mut [[u16; 7]; 512]) -> Sum {
-    let mut path = io::buffer();
-    let n = os::arg(i, &mut path);
-    let fd = arguments::open(&path[..n]);
-    if fd < 0 {
-        return failed(sum);
+fn file(rt: &HostRuntime, i: usize, sum: Sum, entries: &mut [[u16; 7]; 512]) -> Sum {
+    let mut path = [0u8; 4096];
+    let n = arguments::word(rt, i, &mut path);
+    match arguments::open(rt, &path[..n]) {
+        Some(mut source) => open(rt, &mut source, &path[..n], sum, entries),
+        None => failed(sum),
     }
-    let after = open(fd, &path[..n], sum, entries);
-    libc::close(fd);
-    after
 }
 
 fn failed(sum: Sum) -> Sum {
@@ -73,16 +79,20 @@ fn failed(sum: Sum) -> Sum {
 }
 
 // Goes through the frames of an open recording.
-fn open(fd: i32, name: &[u8], before: Sum, entries: &mut [[u16; 7]; 512]) -> Sum {
+fn open(
+    rt: &HostRuntime,
+    source: &mut Source,
+    name: &[u8],
+    before: Sum,
+    entries: &mut [[u16; 7]; 512],
+) -> Sum {
     let mut held = [0u8; 1029];
-    let mut piece = io::large_buffer();
+    let mut piece = [0u8; 65536];
     let mut bytes = [0u8; 1029];
     let mut account = reading::start();
     let mut sum = before;
-    let mut turns = u64::MAX;
-    while turns > 0 {
-        turns -= 1;
-        match reading::next(fd, &mut held, &mut piece, &mut bytes, account) {
+    for _ in 0..u64::MAX {
+        match reading::next(rt, source, name, &mut held, &mut piece, &mut bytes, account) {
             Step::Frame {
                 place: _,
                 length,
@@ -95,13 +105,10 @@ fn open(fd: i32, name: &[u8], before: Sum, entries: &mut [[u16; 7]; 512]) -> Sum
                 account = a;
             }
             Step::End(a) => {
-                arguments::empty(name, a);
+                arguments::empty(rt, name, a);
                 return sum;
             }
-            Step::Failed(_) => {
-                os::fail(name);
-                return failed(sum);
-            }
+            Step::Failed(_) => return failed(sum),
         }
     }
     sum
@@ -162,14 +169,12 @@ fn records(
     entries: &mut [[u16; 7]; 512],
 ) -> u64 {
     let mut lost: u64 = 0;
-    let mut i: usize = 0;
-    while i < 422 {
+    for i in 0..422 {
         if count <= i {
             return lost;
         }
         let more = one(header, satellites[i], signals[i], biases[i], entries);
         lost = num::wrapping_add_u64(lost, more);
-        i += 1;
     }
     lost
 }
@@ -221,13 +226,14 @@ fn from_32_bits(bits: u32) -> Amount {
 }
 
 // Shows the entries, provider by provider, each by solution, and what was read; answers whether all went well.
-fn shown(sum: Sum, edition: u32, entries: &[[u16; 7]; 512]) -> bool {
-    let mut out = io::large_buffer();
+fn shown(rt: &HostRuntime, sum: Sum, edition: u32, entries: &[[u16; 7]; 512]) -> bool {
+    let mut out = [0u8; 65536];
     let mut at: usize = 0;
-    if !groups(edition, entries, &mut out, &mut at) {
+    if !groups(rt, edition, entries, &mut out, &mut at) {
         return false;
     }
     phrase(
+        rt,
         &mut out,
         &mut at,
         b"",
@@ -235,8 +241,9 @@ fn shown(sum: Sum, edition: u32, entries: &[[u16; 7]; 512]) -> bool {
         0,
         b" messages 1059 read, ",
     );
-    phrase(&mut out, &mut at, b"", sum.refused, 0, b" refused, ");
+    phrase(rt, &mut out, &mut at, b"", sum.refused, 0, b" refused, ");
     phrase(
+        rt,
         &mut out,
         &mut at,
         b"",
@@ -244,24 +251,28 @@ fn shown(sum: Sum, edition: u32, entries: &[[u16; 7]; 512]) -> bool {
         0,
         b" biases without room\n",
     );
-    if !printing::flush(&out, &mut at) {
+    if !printing::flush(rt, &out, &mut at) {
         return false;
     }
     sum.is_well
 }
 
 // A group begins at the first entry of its provider and solution.
-fn groups(edition: u32, entries: &[[u16; 7]; 512], out: &mut [u8; 65536], at: &mut usize) -> bool {
-    let mut i: usize = 0;
-    while i < 512 {
+fn groups(
+    rt: &HostRuntime,
+    edition: u32,
+    entries: &[[u16; 7]; 512],
+    out: &mut [u8; 65536],
+    at: &mut usize,
+) -> bool {
+    for i in 0..512 {
         let e = entries[i];
         if is_first(e, i, entries) {
-            group(e, edition, entries, out, at);
-            if !printing::flush(out, at) {
+            group(rt, e, edition, entries, out, at);
+            if !printing::flush(rt, out, at) {
                 return false;
             }
         }
-        i += 1;
     }
     true
 }
@@ -271,15 +282,13 @@ fn is_first(e: [u16; 7], i: usize, entries: &[[u16; 7]; 512]) -> bool {
     if e[0] == 0 {
         return false;
     }
-    let mut j: usize = 0;
-    while j < 512 {
+    for j in 0..512 {
         if i <= j {
             return true;
         }
         if is_of(entries[j], e) {
             return false;
         }
-        j += 1;
     }
     true
 }
@@ -297,31 +306,32 @@ fn is_of(d: [u16; 7], e: [u16; 7]) -> bool {
 
 // The provider and the solution of e, and the rows of all entries that have them.
 fn group(
+    rt: &HostRuntime,
     e: [u16; 7],
     edition: u32,
     entries: &[[u16; 7]; 512],
     out: &mut [u8; 65536],
     at: &mut usize,
 ) {
-    phrase(out, at, b"provider ", e[1] as u64, 0, b", solution ");
-    phrase(out, at, b"", e[2] as u64, 0, b"\n");
+    phrase(rt, out, at, b"provider ", e[1] as u64, 0, b", solution ");
+    phrase(rt, out, at, b"", e[2] as u64, 0, b"\n");
     text(
+        rt,
         out,
         at,
         b"    satellite  signal       raw    metres   IOD\n",
     );
-    let mut i: usize = 0;
-    while i < 512 {
+    for i in 0..512 {
         let d = entries[i];
         if is_of(d, e) {
-            row(d, edition, entries, out, at);
+            row(rt, d, edition, entries, out, at);
         }
-        i += 1;
     }
 }
 
 // The row of an entry: what a lookup of its key finds. A raw bias of message 1059 is in hundredths of a metre.
 fn row(
+    rt: &HostRuntime,
     d: [u16; 7],
     edition: u32,
     entries: &[[u16; 7]; 512],
@@ -337,13 +347,13 @@ fn row(
     let Found::Value(iod, bias) = cache::cache::lookup(entries, key) else {
         return;
     };
-    unsigned(out, at, wide(key.satellite), 13);
+    unsigned(rt, out, at, wide(key.satellite), 13);
     let signal = table::of_edition(signals1059::signal_of_1059(edition, key.signal));
-    table::named(signal, wide(key.signal), out, at);
-    printing::signed(out, at, from_32_bits(bias), 10);
-    printing::hundredths(out, at, from_32_bits(bias), 10);
-    unsigned(out, at, wide(iod), 6);
-    text(out, at, b"\n");
+    table::named(rt, signal, wide(key.signal), out, at);
+    printing::signed(rt, out, at, from_32_bits(bias), 10);
+    printing::hundredths(rt, out, at, from_32_bits(bias), 10);
+    unsigned(rt, out, at, wide(iod), 6);
+    text(rt, out, at, b"\n");
 }
 
 fn wide(n: u32) -> u64 {

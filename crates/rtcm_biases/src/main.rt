@@ -9,11 +9,11 @@ mod table;
 use frames::frame;
 use options::Settings;
 use reading::arguments::Kind;
-use reading::{Step, arguments};
+use reading::{Account, Source, Step, arguments};
 use table::Tally;
 
 // What a recording came to.
-#[derive(Drop)]
+#[derive(Clone, Copy)]
 enum End {
     Well,
     // It could not be read to its end.
@@ -22,50 +22,48 @@ enum End {
     Stopped,
 }
 
-fn main() {
-    let asked = options::all();
+fn main(rt: HostRuntime) {
+    let asked = options::all(&rt);
     if asked.help {
-        options::help();
+        options::help(&rt);
         return;
     }
     if asked.version {
-        arguments::version(b"rtcm_biases");
+        arguments::version(&rt, b"rtcm_biases");
         return;
     }
     if asked.wrong != 0 {
-        options::say_wrong(asked.wrong, asked.rest);
-        arguments::failed(b"rtcm_biases");
+        options::say_wrong(&rt, asked.wrong, asked.rest);
+        arguments::failed(&rt, b"rtcm_biases");
         return;
     }
     if asked.file == 0 {
-        arguments::no_file(b"rtcm_biases");
-        arguments::failed(b"rtcm_biases");
+        arguments::no_file(&rt, b"rtcm_biases");
+        arguments::failed(&rt, b"rtcm_biases");
         return;
     }
-    if !run(asked.rest) {
-        arguments::failed(b"rtcm_biases");
+    if !run(&rt, asked.rest) {
+        arguments::failed(&rt, b"rtcm_biases");
     }
 }
 
 // Does what is asked for, and answers whether all went well.
-fn run(rest: usize) -> bool {
-    if options::is_latest(rest) {
-        return latest::all(rest);
+fn run(rt: &HostRuntime, rest: usize) -> bool {
+    if options::is_latest(rt, rest) {
+        return latest::all(rt, rest);
     }
-    show_all(rest)
+    show_all(rt, rest)
 }
 
 // Shows what the arguments name, one after another, and answers whether all went well.
-fn show_all(rest: usize) -> bool {
-    let mut out = io::large_buffer();
+fn show_all(rt: &HostRuntime, rest: usize) -> bool {
+    let mut out = [0u8; 65536];
     let mut at: usize = 0;
     let mut is_well = true;
     let mut settings = options::usual();
-    let count = os::arg_count();
-    let mut i: usize = 1;
-    while i < count {
-        settings = options::settings_at(i, rest, settings);
-        match show_argument(i, rest, settings, &mut out, &mut at) {
+    for i in 1..arguments::count(rt) {
+        settings = options::settings_at(rt, i, rest, settings);
+        match show_argument(rt, i, rest, settings, &mut out, &mut at) {
             End::Well => {}
             End::Failed => {
                 is_well = false;
@@ -74,90 +72,101 @@ fn show_all(rest: usize) -> bool {
                 return false;
             }
         }
-        i += 1;
     }
     is_well
 }
 
 // Shows what argument i names, if it names a recording.
 fn show_argument(
+    rt: &HostRuntime,
     i: usize,
     rest: usize,
     settings: Settings,
     out: &mut [u8; 65536],
     at: &mut usize,
 ) -> End {
-    if options::is_number(i, rest) {
+    if options::is_number(rt, i, rest) {
         return End::Well;
     }
-    match options::kind_at(i, rest) {
-        Kind::File => show_file(i, settings, out, at),
-        Kind::Input => show_open(0, b"standard input", settings, out, at),
+    match options::kind_at(rt, i, rest) {
+        Kind::File => show_file(rt, i, settings, out, at),
+        Kind::Input => show_open(
+            rt,
+            &mut Source::Input(rt.stdin()),
+            b"standard input",
+            settings,
+            out,
+            at,
+        ),
         _ => End::Well,
     }
 }
 
-fn show_file(i: usize, settings: Settings, out: &mut [u8; 65536], at: &mut usize) -> End {
-    let mut path = io::buffer();
-    let n = os::arg(i, &mut path);
-    let fd = arguments::open(&path[..n]);
-    if fd < 0 {
-        return End::Failed;
+fn show_file(
+    rt: &HostRuntime,
+    i: usize,
+    settings: Settings,
+    out: &mut [u8; 65536],
+    at: &mut usize,
+) -> End {
+    let mut path = [0u8; 4096];
+    let n = arguments::word(rt, i, &mut path);
+    match arguments::open(rt, &path[..n]) {
+        Some(mut source) => show_open(rt, &mut source, &path[..n], settings, out, at),
+        None => End::Failed,
     }
-    let end = show_open(fd, &path[..n], settings, out, at);
-    libc::close(fd);
-    end
 }
 
 // Shows an open recording.
 fn show_open(
-    fd: i32,
+    rt: &HostRuntime,
+    source: &mut Source,
     name: &[u8],
     settings: Settings,
     out: &mut [u8; 65536],
     at: &mut usize,
 ) -> End {
-    let end = show(fd, name, settings, out, at);
-    if !printing::flush(out, at) {
+    let end = show(rt, source, name, settings, out, at);
+    if !printing::flush(rt, out, at) {
         return End::Stopped;
     }
     end
 }
 
 // Goes through the frames; the table of a block is written when its frame has arrived.
-fn show(fd: i32, name: &[u8], settings: Settings, out: &mut [u8; 65536], at: &mut usize) -> End {
+fn show(
+    rt: &HostRuntime,
+    source: &mut Source,
+    name: &[u8],
+    settings: Settings,
+    out: &mut [u8; 65536],
+    at: &mut usize,
+) -> End {
     let mut held = [0u8; 1029];
-    let mut piece = io::large_buffer();
+    let mut piece = [0u8; 65536];
     let mut bytes = [0u8; 1029];
     let mut account = reading::start();
     let mut tally = table::none();
-    let mut turns = u64::MAX;
-    while turns > 0 {
-        turns -= 1;
-        match reading::next(fd, &mut held, &mut piece, &mut bytes, account) {
+    for _ in 0..u64::MAX {
+        match reading::next(rt, source, name, &mut held, &mut piece, &mut bytes, account) {
             Step::Frame {
                 place,
                 length,
                 account: a,
             } => {
-                tally = show_frame(&bytes, length, place, settings, tally, out, at);
+                tally = show_frame(rt, &bytes, length, place, settings, tally, out, at);
                 account = a;
-                if !printing::flush(out, at) {
+                if !printing::flush(rt, out, at) {
                     return End::Stopped;
                 }
             }
             Step::Piece(a) => {
-                table::opening(name, account, out, at);
+                table::opening(rt, name, account, out, at);
                 account = a;
             }
-            Step::End(a) => {
-                arguments::empty(name, a);
-                table::closing(a, tally, out, at);
-                return End::Well;
-            }
+            Step::End(a) => return ended(rt, name, a, tally, out, at),
             Step::Failed(a) => {
-                os::fail(name);
-                table::closing(a, tally, out, at);
+                table::closing(rt, a, tally, out, at);
                 return End::Failed;
             }
         }
@@ -165,8 +174,23 @@ fn show(fd: i32, name: &[u8], settings: Settings, out: &mut [u8; 65536], at: &mu
     End::Well
 }
 
+// What stands behind the last message. A recording in which nothing was is named on standard error.
+fn ended(
+    rt: &HostRuntime,
+    name: &[u8],
+    account: Account,
+    tally: Tally,
+    out: &mut [u8; 65536],
+    at: &mut usize,
+) -> End {
+    arguments::empty(rt, name, account);
+    table::closing(rt, account, tally, out, at);
+    End::Well
+}
+
 // Shows the frame, if its message is 1059 or 1230.
 fn show_frame(
+    rt: &HostRuntime,
     bytes: &[u8; 1029],
     length: usize,
     place: u64,
@@ -177,29 +201,20 @@ fn show_frame(
 ) -> Tally {
     let frame = reading::frame_of(bytes, length);
     let number = reading::number_of(frame);
-    if number == 1059 {
-        return table::message(
-            number,
-            frame::data_of(frame),
-            place,
-            settings.of_1059,
-            settings.edition,
-            tally,
-            out,
-            at,
-        );
-    }
-    if number == 1230 {
-        return table::message(
-            number,
-            frame::data_of(frame),
-            place,
-            settings.of_1230,
-            settings.edition,
-            tally,
-            out,
-            at,
-        );
-    }
-    tally
+    let start = match number {
+        1059 => settings.of_1059,
+        1230 => settings.of_1230,
+        _ => return tally,
+    };
+    table::message(
+        rt,
+        number,
+        frame::data_of(frame),
+        place,
+        start,
+        settings.edition,
+        tally,
+        out,
+        at,
+    )
 }

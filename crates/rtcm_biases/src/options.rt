@@ -1,11 +1,9 @@
 // What the arguments ask for, and what is said to the user.
-use check::same;
-use libc::STDERR_FILENO;
 use reading::arguments;
-use reading::arguments::Kind;
+use reading::arguments::{Kind, same};
 
 // The data bits at which the blocks start, and the edition of the 1059 signals.
-#[derive(Drop)]
+#[derive(Clone, Copy)]
 pub struct Settings {
     pub of_1059: usize,
     pub of_1230: usize,
@@ -22,7 +20,7 @@ pub fn usual() -> Settings {
 }
 
 // The number of an option: a data bit or an edition.
-#[derive(Drop)]
+#[derive(Clone, Copy)]
 pub enum Bit {
     At(usize),
     // No number that the option takes.
@@ -31,7 +29,7 @@ pub enum Bit {
 
 // What all the arguments ask for: `wrong` is the place of the first option that is not known or has no number, `rest` that
 // of `--`, and `file` that of a recording, or 0.
-#[derive(Drop)]
+#[derive(Clone, Copy)]
 pub struct Asked {
     pub help: bool,
     pub version: bool,
@@ -40,16 +38,14 @@ pub struct Asked {
     pub file: usize,
 }
 
-pub fn all() -> Asked {
+pub fn all(rt: &HostRuntime) -> Asked {
     let mut help = false;
     let mut version = false;
     let mut wrong: usize = 0;
     let mut rest: usize = 0;
     let mut file: usize = 0;
-    let count = os::arg_count();
-    let mut i: usize = 1;
-    while i < count {
-        match asked_at(i, rest) {
+    for i in 1..arguments::count(rt) {
+        match asked_at(rt, i, rest) {
             Kind::Help => {
                 help = true;
             }
@@ -67,7 +63,6 @@ pub fn all() -> Asked {
                 file = i;
             }
         }
-        i += 1;
     }
     Asked {
         help,
@@ -80,49 +75,46 @@ pub fn all() -> Asked {
 
 // What argument i asks for. An own option that has no number behind it, and a word in the place of that number that is
 // none, are as an option that is not known; the number itself belongs to its option.
-fn asked_at(i: usize, rest: usize) -> Kind {
-    if is_number(i, rest) {
-        return match number_at(i) {
+fn asked_at(rt: &HostRuntime, i: usize, rest: usize) -> Kind {
+    if is_number(rt, i, rest) {
+        return match number_at(rt, i) {
             Bit::At(_) => Kind::Own,
             Bit::Wrong => Kind::Unknown,
         };
     }
-    if is_latest_at(i, rest) {
+    if is_latest_at(rt, i, rest) {
         return Kind::Own;
     }
-    match kind_at(i, rest) {
-        Kind::Own => with_number(i),
+    match kind_at(rt, i, rest) {
+        Kind::Own => with_number(rt, i),
         other => other,
     }
 }
 
 // Whether one of the arguments is --latest.
-pub fn is_latest(rest: usize) -> bool {
-    let count = os::arg_count();
-    let mut i: usize = 1;
-    while i < count {
-        if is_latest_at(i, rest) {
+pub fn is_latest(rt: &HostRuntime, rest: usize) -> bool {
+    for i in 1..arguments::count(rt) {
+        if is_latest_at(rt, i, rest) {
             return true;
         }
-        i += 1;
     }
     false
 }
 
 // Whether argument i is --latest, the option that has no number.
-fn is_latest_at(i: usize, rest: usize) -> bool {
+fn is_latest_at(rt: &HostRuntime, i: usize, rest: usize) -> bool {
     if is_behind(i, rest) {
         return false;
     }
-    if is_number(i, rest) {
+    if is_number(rt, i, rest) {
         return false;
     }
-    is_word(i, b"--latest")
+    is_word(rt, i, b"--latest")
 }
 
 // An own option, if a word stands behind it.
-fn with_number(i: usize) -> Kind {
-    let count = os::arg_count();
+fn with_number(rt: &HostRuntime, i: usize) -> Kind {
+    let count = arguments::count(rt);
     if count <= i {
         return Kind::Unknown;
     }
@@ -138,14 +130,14 @@ fn first(a: usize, b: usize) -> usize {
 }
 
 // Whether argument i is the number of the own option before it.
-pub fn is_number(i: usize, rest: usize) -> bool {
+pub fn is_number(rt: &HostRuntime, i: usize, rest: usize) -> bool {
     if i < 2 {
         return false;
     }
     if is_behind(i, rest) {
         return false;
     }
-    match kind_at(i - 1, rest) {
+    match kind_at(rt, i - 1, rest) {
         Kind::Own => true,
         _ => false,
     }
@@ -160,9 +152,9 @@ fn is_behind(i: usize, rest: usize) -> bool {
 }
 
 // What argument i is. The program's own options are --start, --start-1059, --start-1230 and --edition.
-pub fn kind_at(i: usize, rest: usize) -> Kind {
-    let mut word = io::buffer();
-    let n = os::arg(i, &mut word);
+pub fn kind_at(rt: &HostRuntime, i: usize, rest: usize) -> Kind {
+    let mut word = [0u8; 4096];
+    let n = arguments::word(rt, i, &mut word);
     if is_behind(i, rest) {
         return arguments::operand_of(&word[..n]);
     }
@@ -179,38 +171,38 @@ pub fn kind_at(i: usize, rest: usize) -> Kind {
 }
 
 // Whether argument i is the word.
-fn is_word(i: usize, wanted: &[u8]) -> bool {
-    let mut word = io::buffer();
-    let n = os::arg(i, &mut word);
+fn is_word(rt: &HostRuntime, i: usize, wanted: &[u8]) -> bool {
+    let mut word = [0u8; 4096];
+    let n = arguments::word(rt, i, &mut word);
     same(&word[..n], wanted)
 }
 
 // What holds from argument i on, if it is the number of an own option.
-pub fn settings_at(i: usize, rest: usize, settings: Settings) -> Settings {
-    if !is_number(i, rest) {
+pub fn settings_at(rt: &HostRuntime, i: usize, rest: usize, settings: Settings) -> Settings {
+    if !is_number(rt, i, rest) {
         return settings;
     }
     if i == 0 {
         return settings;
     }
-    let Bit::At(bit) = number_at(i) else {
+    let Bit::At(bit) = number_at(rt, i) else {
         return settings;
     };
-    if is_word(i - 1, b"--edition") {
+    if is_word(rt, i - 1, b"--edition") {
         return Settings {
             of_1059: settings.of_1059,
             of_1230: settings.of_1230,
             edition: edition_of(bit),
         };
     }
-    if is_word(i - 1, b"--start-1059") {
+    if is_word(rt, i - 1, b"--start-1059") {
         return Settings {
             of_1059: bit,
             of_1230: settings.of_1230,
             edition: settings.edition,
         };
     }
-    if is_word(i - 1, b"--start-1230") {
+    if is_word(rt, i - 1, b"--start-1230") {
         return Settings {
             of_1059: settings.of_1059,
             of_1230: bit,
@@ -229,16 +221,16 @@ fn edition_of(number: usize) -> u32 {
 }
 
 // The number that argument i names. Behind --edition it is 1 or 2.
-fn number_at(i: usize) -> Bit {
-    let mut word = io::buffer();
-    let n = os::arg(i, &mut word);
+fn number_at(rt: &HostRuntime, i: usize) -> Bit {
+    let mut word = [0u8; 4096];
+    let n = arguments::word(rt, i, &mut word);
     if i == 0 {
         return Bit::Wrong;
     }
     let Bit::At(number) = number(&word[..n]) else {
         return Bit::Wrong;
     };
-    if is_word(i - 1, b"--edition") {
+    if is_word(rt, i - 1, b"--edition") {
         return edition(number);
     }
     Bit::At(number)
@@ -260,9 +252,7 @@ fn number(digits: &[u8]) -> Bit {
         return Bit::Wrong;
     }
     let mut bit: usize = 0;
-    let mut i: usize = 0;
-    while i < digits.len() {
-        let d = digits[i];
+    for &d in digits {
         if d < b'0' {
             return Bit::Wrong;
         }
@@ -273,32 +263,32 @@ fn number(digits: &[u8]) -> Bit {
             return Bit::Wrong;
         }
         bit = bit * 10 + (d - b'0') as usize;
-        i += 1;
     }
     Bit::At(bit)
 }
 
 // Says what is wrong with argument i.
-pub fn say_wrong(i: usize, rest: usize) {
-    if is_number(i, rest) {
-        wrong_number();
+pub fn say_wrong(rt: &HostRuntime, i: usize, rest: usize) {
+    if is_number(rt, i, rest) {
+        wrong_number(rt);
         return;
     }
-    match kind_at(i, rest) {
-        Kind::Own => wrong_number(),
-        _ => arguments::unknown(b"rtcm_biases", i),
+    match kind_at(rt, i, rest) {
+        Kind::Own => wrong_number(rt),
+        _ => arguments::unknown(rt, b"rtcm_biases", i),
     }
 }
 
-fn wrong_number() {
-    io::write_all(
-        STDERR_FILENO,
+fn wrong_number(rt: &HostRuntime) {
+    printing::say(
+        rt,
         b"rtcm_biases: --start takes the number of a data bit, as --start 61, and --edition takes 1 or 2; rtcm_biases --help says more\n",
     );
 }
 
-pub fn help() {
+pub fn help(rt: &HostRuntime) {
     arguments::tell(
+        rt,
         b"rtcm_biases",
         b"rtcm_biases [--start N] [--start-1059 N] [--start-1230 N] [--edition N] [--latest] [--] FILE..
 

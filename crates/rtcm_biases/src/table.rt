@@ -11,7 +11,7 @@ use std::num;
 use whole::answer::{Header1059, Header1230};
 
 // How many blocks were read, how many of them left eight or more bits unread, and how many were refused.
-#[derive(Drop)]
+#[derive(Clone, Copy)]
 pub struct Tally {
     pub read: u64,
     pub unread: u64,
@@ -27,16 +27,23 @@ pub fn none() -> Tally {
 }
 
 // Before the first piece: the name.
-pub fn opening(name: &[u8], account: Account, out: &mut [u8; 65536], at: &mut usize) {
+pub fn opening(
+    rt: &HostRuntime,
+    name: &[u8],
+    account: Account,
+    out: &mut [u8; 65536],
+    at: &mut usize,
+) {
     if account.bytes != 0 {
         return;
     }
-    text(out, at, name);
-    text(out, at, b"\n");
+    text(rt, out, at, name);
+    text(rt, out, at, b"\n");
 }
 
 // The message `number`, 1059 or 1230, its block from data bit `start` on, with the names of an edition of the 1059 signals.
 pub fn message(
+    rt: &HostRuntime,
     number: u64,
     data: &[u8],
     place: u64,
@@ -58,11 +65,11 @@ pub fn message(
         &mut biases,
     );
     let Found::Records { head, count, end } = found else {
-        refused(number, place, found, out, at);
-        return one_refused(tally);
+        return refused(rt, number, place, found, tally, out, at);
     };
-    accepted(number, place, head, count, out, at);
+    accepted(rt, number, place, head, count, out, at);
     rows(
+        rt,
         number,
         edition,
         &satellites,
@@ -72,17 +79,24 @@ pub fn message(
         out,
         at,
     );
-    ended(left_behind(data.len(), end), tally, out, at)
+    ended(rt, left_behind(data.len(), end), tally, out, at)
 }
 
 // The end of a message that is read, with the bits that are left over behind its block.
-fn ended(left: usize, tally: Tally, out: &mut [u8; 65536], at: &mut usize) -> Tally {
-    left_over(left, out, at);
+fn ended(
+    rt: &HostRuntime,
+    left: usize,
+    tally: Tally,
+    out: &mut [u8; 65536],
+    at: &mut usize,
+) -> Tally {
+    left_over(rt, left, out, at);
     one_read(tally, left)
 }
 
 // The head of a message that is read: its number, its place, how many biases it has, and what its header tells.
 fn accepted(
+    rt: &HostRuntime,
     number: u64,
     place: u64,
     head: Head,
@@ -90,81 +104,108 @@ fn accepted(
     out: &mut [u8; 65536],
     at: &mut usize,
 ) {
-    heading(number, place, out, at);
-    told(b": ", count, b" biases\n", out, at);
-    before(head, out, at);
+    heading(rt, number, place, out, at);
+    told(rt, b": ", count, b" biases\n", out, at);
+    before(rt, head, out, at);
 }
 
 // The head of one that is refused: its number, its place, and why.
-fn refused(number: u64, place: u64, found: Found, out: &mut [u8; 65536], at: &mut usize) {
-    heading(number, place, out, at);
-    refusal(found, out, at);
+fn refused(
+    rt: &HostRuntime,
+    number: u64,
+    place: u64,
+    found: Found,
+    tally: Tally,
+    out: &mut [u8; 65536],
+    at: &mut usize,
+) -> Tally {
+    heading(rt, number, place, out, at);
+    refusal(rt, found, out, at);
+    one_refused(tally)
 }
 
 // The head of a message: its number and its place.
-fn heading(number: u64, place: u64, out: &mut [u8; 65536], at: &mut usize) {
-    phrase(out, at, b"  message ", number, 0, b" at byte ");
-    unsigned(out, at, place, 0);
+fn heading(rt: &HostRuntime, number: u64, place: u64, out: &mut [u8; 65536], at: &mut usize) {
+    phrase(rt, out, at, b"  message ", number, 0, b" at byte ");
+    unsigned(rt, out, at, place, 0);
 }
 
 // Why it is refused.
-fn refusal(found: Found, out: &mut [u8; 65536], at: &mut usize) {
+fn refusal(rt: &HostRuntime, found: Found, out: &mut [u8; 65536], at: &mut usize) {
     match found {
-        Found::Size => text(out, at, b": refused, Size\n"),
-        Found::Short(bit) => told(b": refused, Short at data bit ", bit, b"\n", out, at),
-        Found::Room(count) => told(b": refused, Room for ", count, b" records\n", out, at),
-        _ => text(out, at, b": refused, Kind\n"),
+        Found::Size => text(rt, out, at, b": refused, Size\n"),
+        Found::Short(bit) => told(rt, b": refused, Short at data bit ", bit, b"\n", out, at),
+        Found::Room(count) => told(rt, b": refused, Room for ", count, b" records\n", out, at),
+        _ => text(rt, out, at, b": refused, Kind\n"),
     }
 }
 
 // What stands before the block, if it is known.
-fn before(head: Head, out: &mut [u8; 65536], at: &mut usize) {
+fn before(rt: &HostRuntime, head: Head, out: &mut [u8; 65536], at: &mut usize) {
     match head {
-        Head::Of1059(header) => header_1059(header, out, at),
-        Head::Of1230(header) => header_1230(header, out, at),
+        Head::Of1059(header) => header_1059(rt, header, out, at),
+        Head::Of1230(header) => header_1230(rt, header, out, at),
         Head::Unknown => {}
     }
 }
 
-fn header_1059(header: Header1059, out: &mut [u8; 65536], at: &mut usize) {
+fn header_1059(rt: &HostRuntime, header: Header1059, out: &mut [u8; 65536], at: &mut usize) {
     told(
+        rt,
         b"    provider ",
         header.provider as usize,
         b", solution ",
         out,
         at,
     );
-    told(b"", header.solution as usize, b", IOD ", out, at);
-    told(b"", header.iod as usize, b", epoch ", out, at);
-    told(b"", header.epoch as usize, b" s, update interval ", out, at);
+    told(rt, b"", header.solution as usize, b", IOD ", out, at);
+    told(rt, b"", header.iod as usize, b", epoch ", out, at);
     told(
+        rt,
+        b"",
+        header.epoch as usize,
+        b" s, update interval ",
+        out,
+        at,
+    );
+    told(
+        rt,
         b"",
         header.interval as usize,
         b", multiple message flag ",
         out,
         at,
     );
-    told(b"", header.multiple as usize, b"\n", out, at);
+    told(rt, b"", header.multiple as usize, b"\n", out, at);
 }
 
-fn header_1230(header: Header1230, out: &mut [u8; 65536], at: &mut usize) {
+fn header_1230(rt: &HostRuntime, header: Header1230, out: &mut [u8; 65536], at: &mut usize) {
     told(
+        rt,
         b"    station ",
         header.station as usize,
         b", indicator ",
         out,
         at,
     );
-    told(b"", header.indicator as usize, b", reserved ", out, at);
-    told(b"", header.reserved as usize, b"\n", out, at);
+    told(rt, b"", header.indicator as usize, b", reserved ", out, at);
+    told(rt, b"", header.reserved as usize, b"\n", out, at);
 }
 
-fn told(before: &[u8], n: usize, behind: &[u8], out: &mut [u8; 65536], at: &mut usize) {
-    phrase(out, at, before, n as u64, 0, behind);
+fn told(
+    rt: &HostRuntime,
+    before: &[u8],
+    n: usize,
+    behind: &[u8],
+    out: &mut [u8; 65536],
+    at: &mut usize,
+) {
+    phrase(rt, out, at, before, n as u64, 0, behind);
 }
 
 // The rows of the first `count` records, under the heads of their columns.
 fn rows(
+    rt: &HostRuntime,
     number: u64,
     edition: u32,
     satellites: &[u8; 422],
@@ -174,25 +215,29 @@ fn rows(
     out: &mut [u8; 65536],
     at: &mut usize,
 ) {
-    text(out, at, b"    satellite  signal       raw    metres\n");
-    let mut i: usize = 0;
-    while i < 422 {
+    text(rt, out, at, b"    satellite  signal       raw    metres\n");
+    for i in 0..422 {
         if count <= i {
             return;
         }
-        satellite(number, satellites[i], out, at);
-        name(signal_of(number, edition, signals[i]), signals[i], out, at);
-        values(number, biases[i], out, at);
-        i += 1;
+        satellite(rt, number, satellites[i], out, at);
+        name(
+            rt,
+            signal_of(number, edition, signals[i]),
+            signals[i],
+            out,
+            at,
+        );
+        values(rt, number, biases[i], out, at);
     }
 }
 
-fn satellite(number: u64, satellite: u8, out: &mut [u8; 65536], at: &mut usize) {
+fn satellite(rt: &HostRuntime, number: u64, satellite: u8, out: &mut [u8; 65536], at: &mut usize) {
     if number == 1059 {
-        unsigned(out, at, satellite as u64, 13);
+        unsigned(rt, out, at, satellite as u64, 13);
         return;
     }
-    text(out, at, b"            -");
+    text(rt, out, at, b"            -");
 }
 
 // The signal of a record: message 1059 has a table of its own, 1230 that of GLONASS.
@@ -211,34 +256,40 @@ pub fn of_edition(answer: Signal1059) -> SignalFound {
 }
 
 // The name of a signal: its band and its letter, or its number in brackets.
-fn name(found: SignalFound, number: u8, out: &mut [u8; 65536], at: &mut usize) {
-    named(found, number as u64, out, at);
+fn name(rt: &HostRuntime, found: SignalFound, number: u8, out: &mut [u8; 65536], at: &mut usize) {
+    named(rt, found, number as u64, out, at);
 }
 
-pub fn named(found: SignalFound, number: u64, out: &mut [u8; 65536], at: &mut usize) {
+pub fn named(
+    rt: &HostRuntime,
+    found: SignalFound,
+    number: u64,
+    out: &mut [u8; 65536],
+    at: &mut usize,
+) {
     match found {
         SignalFound::At(band, letter) => {
-            unsigned(out, at, band as u64, 7);
-            text(out, at, &[letter]);
+            unsigned(rt, out, at, band as u64, 7);
+            text(rt, out, at, &[letter]);
         }
         SignalFound::None => {
-            bracket(number, out, at);
+            bracket(rt, number, out, at);
         }
     }
 }
 
-fn bracket(number: u64, out: &mut [u8; 65536], at: &mut usize) {
+fn bracket(rt: &HostRuntime, number: u64, out: &mut [u8; 65536], at: &mut usize) {
     if number < 10 {
-        text(out, at, b" ");
+        text(rt, out, at, b" ");
     }
-    phrase(out, at, b"    (", number, 0, b")");
+    phrase(rt, out, at, b"    (", number, 0, b")");
 }
 
 // The raw number and the metres of a row.
-fn values(number: u64, bias: i16, out: &mut [u8; 65536], at: &mut usize) {
-    printing::signed(out, at, amount(bias), 10);
-    printing::hundredths(out, at, length(hundredths(number, bias)), 10);
-    text(out, at, b"\n");
+fn values(rt: &HostRuntime, number: u64, bias: i16, out: &mut [u8; 65536], at: &mut usize) {
+    printing::signed(rt, out, at, amount(bias), 10);
+    printing::hundredths(rt, out, at, length(hundredths(number, bias)), 10);
+    text(rt, out, at, b"\n");
 }
 
 pub fn amount(bias: i16) -> Amount {
@@ -269,29 +320,44 @@ fn left_behind(bytes: usize, end: usize) -> usize {
 }
 
 // The bits behind the block. A message ends with its block and fills its last byte, so eight or more are a warning.
-fn left_over(bits: usize, out: &mut [u8; 65536], at: &mut usize) {
-    told(b"    ", bits, b" bits left over behind the block", out, at);
+fn left_over(rt: &HostRuntime, bits: usize, out: &mut [u8; 65536], at: &mut usize) {
+    told(
+        rt,
+        b"    ",
+        bits,
+        b" bits left over behind the block",
+        out,
+        at,
+    );
     if 8 <= bits {
         text(
+            rt,
             out,
             at,
             b": WARNING, the block may start at another data bit (--start)",
         );
     }
-    text(out, at, b"\n");
+    text(rt, out, at, b"\n");
 }
 
 // Behind the last block, if anything was read: how many were read and refused, or why there is none.
-pub fn closing(account: Account, tally: Tally, out: &mut [u8; 65536], at: &mut usize) {
+pub fn closing(
+    rt: &HostRuntime,
+    account: Account,
+    tally: Tally,
+    out: &mut [u8; 65536],
+    at: &mut usize,
+) {
     if account.bytes == 0 {
         return;
     }
     if account.frames == 0 {
-        text(out, at, b"  no frames\n\n");
+        text(rt, out, at, b"  no frames\n\n");
         return;
     }
     if is_none(tally) {
         phrase(
+            rt,
             out,
             at,
             b"  no message 1059 or 1230 in ",
@@ -301,19 +367,25 @@ pub fn closing(account: Account, tally: Tally, out: &mut [u8; 65536], at: &mut u
         );
         return;
     }
-    phrase(out, at, b"  ", tally.read, 0, b" blocks read, ");
-    phrase(out, at, b"", tally.refused, 0, b" refused");
-    if tally.unread != 0 {
+    phrase(rt, out, at, b"  ", tally.read, 0, b" blocks read, ");
+    phrase(rt, out, at, b"", tally.refused, 0, b" refused");
+    warning(rt, tally.unread, out, at);
+    text(rt, out, at, b"\n\n");
+}
+
+// That some blocks may start elsewhere, if there are such.
+fn warning(rt: &HostRuntime, unread: u64, out: &mut [u8; 65536], at: &mut usize) {
+    if unread != 0 {
         phrase(
+            rt,
             out,
             at,
             b"; WARNING, ",
-            tally.unread,
+            unread,
             0,
             b" leave eight or more bits unread",
         );
     }
-    text(out, at, b"\n\n");
 }
 
 fn is_none(tally: Tally) -> bool {

@@ -5,11 +5,11 @@ mod table;
 
 use frames::frame;
 use reading::arguments::Kind;
-use reading::{Step, arguments, asked};
+use reading::{Account, Source, Step, arguments, asked};
 use table::Tally;
 
 // What a recording came to.
-#[derive(Drop)]
+#[derive(Clone, Copy)]
 enum End {
     Well,
     // It could not be read to its end.
@@ -18,33 +18,34 @@ enum End {
     Stopped,
 }
 
-fn main() {
-    let asked = asked::all();
+fn main(rt: HostRuntime) {
+    let asked = asked::all(&rt);
     if asked.help {
-        help();
+        help(&rt);
         return;
     }
     if asked.version {
-        arguments::version(b"rtcm_observations");
+        arguments::version(&rt, b"rtcm_observations");
         return;
     }
     if asked.unknown != 0 {
-        arguments::unknown(b"rtcm_observations", asked.unknown);
-        arguments::failed(b"rtcm_observations");
+        arguments::unknown(&rt, b"rtcm_observations", asked.unknown);
+        arguments::failed(&rt, b"rtcm_observations");
         return;
     }
     if asked.first == 0 {
-        arguments::no_file(b"rtcm_observations");
-        arguments::failed(b"rtcm_observations");
+        arguments::no_file(&rt, b"rtcm_observations");
+        arguments::failed(&rt, b"rtcm_observations");
         return;
     }
-    if !show_all(asked.rest) {
-        arguments::failed(b"rtcm_observations");
+    if !show_all(&rt, asked.rest) {
+        arguments::failed(&rt, b"rtcm_observations");
     }
 }
 
-fn help() {
+fn help(rt: &HostRuntime) {
     arguments::tell(
+        rt,
         b"rtcm_observations",
         b"rtcm_observations [--] FILE..
 
@@ -63,14 +64,12 @@ The exit status is always 0. If something failed, the last line on standard erro
 }
 
 // Shows what the arguments name, one after another, and answers whether all went well.
-fn show_all(rest: usize) -> bool {
-    let mut out = io::large_buffer();
+fn show_all(rt: &HostRuntime, rest: usize) -> bool {
+    let mut out = [0u8; 65536];
     let mut at: usize = 0;
     let mut is_well = true;
-    let count = os::arg_count();
-    let mut i: usize = 1;
-    while i < count {
-        match show_argument(i, rest, &mut out, &mut at) {
+    for i in 1..arguments::count(rt) {
+        match show_argument(rt, i, rest, &mut out, &mut at) {
             End::Well => {}
             End::Failed => {
                 is_well = false;
@@ -79,79 +78,90 @@ fn show_all(rest: usize) -> bool {
                 return false;
             }
         }
-        i += 1;
     }
     is_well
 }
 
 // Shows what argument i names, if it names a recording.
-fn show_argument(i: usize, rest: usize, out: &mut [u8; 65536], at: &mut usize) -> End {
-    let mut word = io::buffer();
-    let n = os::arg(i, &mut word);
-    if os::errno() != 0 {
-        os::fail(b"argument");
+fn show_argument(
+    rt: &HostRuntime,
+    i: usize,
+    rest: usize,
+    out: &mut [u8; 65536],
+    at: &mut usize,
+) -> End {
+    let mut word = [0u8; 4096];
+    let Some(n) = arguments::named(rt, i, &mut word) else {
         return End::Failed;
-    }
+    };
     match asked::kind_of(&word[..n], i, rest) {
-        Kind::File => show_file(&word[..n], out, at),
-        Kind::Input => show_open(0, b"standard input", out, at),
+        Kind::File => show_file(rt, &word[..n], out, at),
+        Kind::Input => show_open(
+            rt,
+            &mut Source::Input(rt.stdin()),
+            b"standard input",
+            out,
+            at,
+        ),
         _ => End::Well,
     }
 }
 
-fn show_file(path: &[u8], out: &mut [u8; 65536], at: &mut usize) -> End {
-    let fd = arguments::open(path);
-    if fd < 0 {
-        return End::Failed;
+fn show_file(rt: &HostRuntime, path: &[u8], out: &mut [u8; 65536], at: &mut usize) -> End {
+    match arguments::open(rt, path) {
+        Some(mut source) => show_open(rt, &mut source, path, out, at),
+        None => End::Failed,
     }
-    let end = show_open(fd, path, out, at);
-    libc::close(fd);
-    end
 }
 
 // Shows an open recording.
-fn show_open(fd: i32, name: &[u8], out: &mut [u8; 65536], at: &mut usize) -> End {
-    let end = show(fd, name, out, at);
-    if !printing::flush(out, at) {
+fn show_open(
+    rt: &HostRuntime,
+    source: &mut Source,
+    name: &[u8],
+    out: &mut [u8; 65536],
+    at: &mut usize,
+) -> End {
+    let end = show(rt, source, name, out, at);
+    if !printing::flush(rt, out, at) {
         return End::Stopped;
     }
     end
 }
 
 // Goes through the frames; the table of a message is written when its frame has arrived.
-fn show(fd: i32, name: &[u8], out: &mut [u8; 65536], at: &mut usize) -> End {
+fn show(
+    rt: &HostRuntime,
+    source: &mut Source,
+    name: &[u8],
+    out: &mut [u8; 65536],
+    at: &mut usize,
+) -> End {
     let mut held = [0u8; 1029];
-    let mut piece = io::large_buffer();
+    let mut piece = [0u8; 65536];
     let mut bytes = [0u8; 1029];
     let mut account = reading::start();
     let mut tally = table::none();
-    let mut turns = u64::MAX;
-    while turns > 0 {
-        turns -= 1;
-        match reading::next(fd, &mut held, &mut piece, &mut bytes, account) {
+    for _ in 0..u64::MAX {
+        match reading::next(rt, source, name, &mut held, &mut piece, &mut bytes, account) {
             Step::Frame {
                 place,
                 length,
                 account: a,
             } => {
-                tally = show_frame(&bytes, length, place, tally, out, at);
+                tally = show_frame(rt, &bytes, length, place, tally, out, at);
                 account = a;
-                if !printing::flush(out, at) {
+                if !printing::flush(rt, out, at) {
                     return End::Stopped;
                 }
             }
             Step::Piece(a) => {
-                table::opening(name, account, out, at);
+                table::opening(rt, name, account, out, at);
                 account = a;
             }
-            Step::End(a) => {
-                arguments::empty(name, a);
-                table::closing(a, tally, out, at);
-                return End::Well;
-            }
+            Step::End(a) => return ended(rt, name, a, tally, out, at),
             Step::Failed(a) => {
-                os::fail(name);
-                table::closing(a, tally, out, at);
+                table::closing(rt, a, tally, out, at);
                 return End::Failed;
             }
         }
@@ -159,8 +169,23 @@ fn show(fd: i32, name: &[u8], out: &mut [u8; 65536], at: &mut usize) -> End {
     End::Well
 }
 
+// What stands behind the last message. A recording in which nothing was is named on standard error.
+fn ended(
+    rt: &HostRuntime,
+    name: &[u8],
+    account: Account,
+    tally: Tally,
+    out: &mut [u8; 65536],
+    at: &mut usize,
+) -> End {
+    arguments::empty(rt, name, account);
+    table::closing(rt, account, tally, out, at);
+    End::Well
+}
+
 // Shows the frame, if its message is 1001.
 fn show_frame(
+    rt: &HostRuntime,
     bytes: &[u8; 1029],
     length: usize,
     place: u64,
@@ -170,7 +195,7 @@ fn show_frame(
 ) -> Tally {
     let frame = reading::frame_of(bytes, length);
     if reading::number_of(frame) == 1001 {
-        return table::message(frame::data_of(frame), place, tally, out, at);
+        return table::message(rt, frame::data_of(frame), place, tally, out, at);
     }
     tally
 }

@@ -7,7 +7,7 @@ use reading::Account;
 use std::num;
 
 // How many messages were read, and how many were refused.
-#[derive(Drop)]
+#[derive(Clone, Copy)]
 pub struct Tally {
     pub read: u64,
     pub refused: u64,
@@ -21,16 +21,23 @@ pub fn none() -> Tally {
 }
 
 // Before the first piece: the name.
-pub fn opening(name: &[u8], account: Account, out: &mut [u8; 65536], at: &mut usize) {
+pub fn opening(
+    rt: &HostRuntime,
+    name: &[u8],
+    account: Account,
+    out: &mut [u8; 65536],
+    at: &mut usize,
+) {
     if account.bytes != 0 {
         return;
     }
-    text(out, at, name);
-    text(out, at, b"\n");
+    text(rt, out, at, name);
+    text(rt, out, at, b"\n");
 }
 
 // The message of the data.
 pub fn message(
+    rt: &HostRuntime,
     data: &[u8],
     place: u64,
     tally: Tally,
@@ -42,7 +49,7 @@ pub fn message(
     let mut pseudoranges = [0u32; 31];
     let mut phases = [0i32; 31];
     let mut locks = [0u8; 31];
-    phrase(out, at, b"  message 1001 at byte ", place, 0, b"");
+    phrase(rt, out, at, b"  message 1001 at byte ", place, 0, b"");
     let answer = read::read(
         data,
         &mut satellites,
@@ -51,8 +58,10 @@ pub fn message(
         &mut phases,
         &mut locks,
     );
-    let count = heading(answer, out, at);
+    let after = counted(&answer, tally);
+    let count = heading(rt, answer, out, at);
     rows(
+        rt,
         count,
         &satellites,
         &codes,
@@ -62,17 +71,13 @@ pub fn message(
         out,
         at,
     );
-    counted(answer, tally)
+    after
 }
 
 // One message more.
-fn counted(answer: MessageRead, tally: Tally) -> Tally {
+fn counted(answer: &MessageRead, tally: Tally) -> Tally {
     match answer {
-        MessageRead::Observations {
-            header: _,
-            count: _,
-            end: _,
-        } => Tally {
+        MessageRead::Observations { .. } => Tally {
             read: num::wrapping_add_u64(tally.read, 1),
             refused: tally.refused,
         },
@@ -84,16 +89,23 @@ fn counted(answer: MessageRead, tally: Tally) -> Tally {
 }
 
 // Behind the last message, if anything was read: how many were read and refused, or why there is none.
-pub fn closing(account: Account, tally: Tally, out: &mut [u8; 65536], at: &mut usize) {
+pub fn closing(
+    rt: &HostRuntime,
+    account: Account,
+    tally: Tally,
+    out: &mut [u8; 65536],
+    at: &mut usize,
+) {
     if account.bytes == 0 {
         return;
     }
     if account.frames == 0 {
-        text(out, at, b"  no frames\n\n");
+        text(rt, out, at, b"  no frames\n\n");
         return;
     }
     if is_none(tally) {
         phrase(
+            rt,
             out,
             at,
             b"  no message 1001 in ",
@@ -103,8 +115,8 @@ pub fn closing(account: Account, tally: Tally, out: &mut [u8; 65536], at: &mut u
         );
         return;
     }
-    phrase(out, at, b"  ", tally.read, 0, b" messages read, ");
-    phrase(out, at, b"", tally.refused, 0, b" refused\n\n");
+    phrase(rt, out, at, b"  ", tally.read, 0, b" messages read, ");
+    phrase(rt, out, at, b"", tally.refused, 0, b" refused\n\n");
 }
 
 fn is_none(tally: Tally) -> bool {
@@ -115,7 +127,7 @@ fn is_none(tally: Tally) -> bool {
 }
 
 // The head of a message: its header, or why it is refused. Answers how many rows follow.
-fn heading(answer: MessageRead, out: &mut [u8; 65536], at: &mut usize) -> usize {
+fn heading(rt: &HostRuntime, answer: MessageRead, out: &mut [u8; 65536], at: &mut usize) -> usize {
     match answer {
         MessageRead::Observations {
             header,
@@ -123,6 +135,7 @@ fn heading(answer: MessageRead, out: &mut [u8; 65536], at: &mut usize) -> usize 
             end: _,
         } => {
             phrase(
+                rt,
                 out,
                 at,
                 b": station ",
@@ -130,24 +143,25 @@ fn heading(answer: MessageRead, out: &mut [u8; 65536], at: &mut usize) -> usize 
                 0,
                 b", epoch ",
             );
-            unsigned(out, at, header.epoch as u64, 0);
-            phrase(out, at, b" ms, ", count as u64, 0, b" observations\n");
+            unsigned(rt, out, at, header.epoch as u64, 0);
+            phrase(rt, out, at, b" ms, ", count as u64, 0, b" observations\n");
             count
         }
-        MessageRead::Size => refused(b": refused, Size\n", out, at),
-        MessageRead::Short(place, _) => cut(place, out, at),
-        MessageRead::Kind => refused(b": refused, Kind\n", out, at),
-        MessageRead::Room(_) => refused(b": refused, Room\n", out, at),
+        MessageRead::Size => refused(rt, b": refused, Size\n", out, at),
+        MessageRead::Short(place, _) => cut(rt, place, out, at),
+        MessageRead::Kind => refused(rt, b": refused, Kind\n", out, at),
+        MessageRead::Room(_) => refused(rt, b": refused, Room\n", out, at),
     }
 }
 
-fn refused(words: &[u8], out: &mut [u8; 65536], at: &mut usize) -> usize {
-    text(out, at, words);
+fn refused(rt: &HostRuntime, words: &[u8], out: &mut [u8; 65536], at: &mut usize) -> usize {
+    text(rt, out, at, words);
     0
 }
 
-fn cut(place: usize, out: &mut [u8; 65536], at: &mut usize) -> usize {
+fn cut(rt: &HostRuntime, place: usize, out: &mut [u8; 65536], at: &mut usize) -> usize {
     phrase(
+        rt,
         out,
         at,
         b": refused, Short at data bit ",
@@ -160,6 +174,7 @@ fn cut(place: usize, out: &mut [u8; 65536], at: &mut usize) -> usize {
 
 // The rows of the first `count` observations.
 fn rows(
+    rt: &HostRuntime,
     count: usize,
     satellites: &[u8; 31],
     codes: &[u8; 31],
@@ -169,12 +184,12 @@ fn rows(
     out: &mut [u8; 65536],
     at: &mut usize,
 ) {
-    let mut i: usize = 0;
-    while i < 31 {
+    for i in 0..31 {
         if count <= i {
             return;
         }
         phrase(
+            rt,
             out,
             at,
             b"    satellite ",
@@ -182,11 +197,10 @@ fn rows(
             2,
             b", code ",
         );
-        unsigned(out, at, wide(codes[i]), 0);
-        pseudorange(pseudoranges[i], out, at);
-        phase(phases[i], out, at);
-        phrase(out, at, b", lock ", wide(locks[i]), 3, b"\n");
-        i += 1;
+        unsigned(rt, out, at, wide(codes[i]), 0);
+        pseudorange(rt, pseudoranges[i], out, at);
+        phase(rt, phases[i], out, at);
+        phrase(rt, out, at, b", lock ", wide(locks[i]), 3, b"\n");
     }
 }
 
@@ -195,12 +209,13 @@ fn wide(n: u8) -> u64 {
 }
 
 // A pseudorange: its raw number, and the metres.
-fn pseudorange(raw: u32, out: &mut [u8; 65536], at: &mut usize) {
+fn pseudorange(rt: &HostRuntime, raw: u32, out: &mut [u8; 65536], at: &mut usize) {
     let n = raw as u64;
-    phrase(out, at, b", pseudorange ", n, 8, b" ");
+    phrase(rt, out, at, b", pseudorange ", n, 8, b" ");
     match measured::pseudorange(raw) {
-        Measured::Absent => text(out, at, b"    absent"),
+        Measured::Absent => text(rt, out, at, b"    absent"),
         _ => printing::hundredths(
+            rt,
             out,
             at,
             Amount {
@@ -213,13 +228,13 @@ fn pseudorange(raw: u32, out: &mut [u8; 65536], at: &mut usize) {
 }
 
 // A phase range: its raw number, and the metres.
-fn phase(raw: i32, out: &mut [u8; 65536], at: &mut usize) {
+fn phase(rt: &HostRuntime, raw: i32, out: &mut [u8; 65536], at: &mut usize) {
     let amount = amount_of(raw);
-    text(out, at, b", phase ");
-    printing::signed(out, at, amount, 7);
+    text(rt, out, at, b", phase ");
+    printing::signed(rt, out, at, amount, 7);
     match measured::phase(raw) {
-        Measured::Absent => text(out, at, b"    absent"),
-        _ => metres(amount, out, at),
+        Measured::Absent => text(rt, out, at, b"    absent"),
+        _ => metres(rt, amount, out, at),
     }
 }
 
@@ -228,10 +243,11 @@ fn amount_of(raw: i32) -> Amount {
 }
 
 // So many times 0.0005 m, in metres with four digits behind the point.
-fn metres(raw: Amount, out: &mut [u8; 65536], at: &mut usize) {
+fn metres(rt: &HostRuntime, raw: Amount, out: &mut [u8; 65536], at: &mut usize) {
     let twice = num::wrapping_add_u64(raw.size, raw.size);
     let n = num::wrapping_add_u64(num::wrapping_add_u64(twice, twice), raw.size);
     printing::signed(
+        rt,
         out,
         at,
         Amount {
@@ -240,8 +256,8 @@ fn metres(raw: Amount, out: &mut [u8; 65536], at: &mut usize) {
         },
         5,
     );
-    phrase(out, at, b".", n / 1000 % 10, 0, b"");
-    unsigned(out, at, n / 100 % 10, 0);
-    unsigned(out, at, n / 10 % 10, 0);
-    unsigned(out, at, n % 10, 0);
+    phrase(rt, out, at, b".", n / 1000 % 10, 0, b"");
+    unsigned(rt, out, at, n / 100 % 10, 0);
+    unsigned(rt, out, at, n / 10 % 10, 0);
+    unsigned(rt, out, at, n % 10, 0);
 }

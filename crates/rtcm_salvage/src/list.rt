@@ -1,12 +1,30 @@
 // The list of what is given up: a row for each run of bytes with one reason, and the closing counts. It is gathered in a
-// lent area and written to a descriptor.
+// lent area and written to standard error or to a file.
 use closing::reason::{Ruled, Skip};
-use printing::{phrase, text, unsigned};
+use printing::{fail, phrase, text, unsigned};
 use reading::Account;
-use std::num;
+use std::fs::File;
+use std::io::{Stderr, Write};
+use std::{io, num};
+
+// Where the list goes.
+#[derive(Drop)]
+pub enum Log {
+    Errors(Stderr),
+    File(File),
+}
+
+impl Log {
+    fn write_all(&mut self, words: &[u8]) -> io::Result<()> {
+        match self {
+            Log::Errors(errors) => errors.write_all(words),
+            Log::File(file) => file.write_all(words),
+        }
+    }
+}
 
 // Why a byte is given up.
-#[derive(Drop)]
+#[derive(Clone, Copy)]
 pub enum Why {
     NotD3,
     BadCheck,
@@ -15,7 +33,7 @@ pub enum Why {
 
 // The run of bytes that is not written yet, with the number of its reason, or 0 bytes; how many bytes have each reason; and
 // whether all rows could be written.
-#[derive(Drop)]
+#[derive(Clone, Copy)]
 pub struct Given {
     pub place: u64,
     pub bytes: u64,
@@ -67,29 +85,30 @@ fn number_of(why: Why) -> u32 {
 }
 
 // Adds the name of a reason.
-fn name(out: &mut [u8; 65536], at: &mut usize, why: u32) {
+fn name(rt: &HostRuntime, out: &mut [u8; 65536], at: &mut usize, why: u32) {
     if why == 1 {
-        text(out, at, b"  not D3\n");
+        text(rt, out, at, b"  not D3\n");
         return;
     }
     if why == 2 {
-        text(out, at, b"  bad check\n");
+        text(rt, out, at, b"  bad check\n");
         return;
     }
-    text(out, at, b"  unfinished candidate\n");
+    text(rt, out, at, b"  unfinished candidate\n");
 }
 
 // Before the first row: the name, and the heads of the columns.
-pub fn opening(out: &mut [u8; 65536], at: &mut usize, name: &[u8]) {
-    text(out, at, name);
-    text(out, at, b"\n       place       bytes  given up as\n");
+pub fn opening(rt: &HostRuntime, out: &mut [u8; 65536], at: &mut usize, name: &[u8]) {
+    text(rt, out, at, name);
+    text(rt, out, at, b"\n       place       bytes  given up as\n");
 }
 
 // One more byte: it lengthens the run, or the run is written and another begins.
 pub fn add(
+    rt: &HostRuntime,
     out: &mut [u8; 65536],
     at: &mut usize,
-    log: i32,
+    log: &mut Log,
     given: Given,
     place: u64,
     why: Why,
@@ -101,7 +120,7 @@ pub fn add(
             return longer(now);
         }
     }
-    let written = row(out, at, log, now);
+    let written = row(rt, out, at, log, now);
     Given {
         place,
         bytes: 1,
@@ -136,18 +155,24 @@ fn counted(given: Given, why: Why) -> Given {
 }
 
 // Writes the run, if it has a byte.
-pub fn row(out: &mut [u8; 65536], at: &mut usize, log: i32, given: Given) -> Given {
+pub fn row(
+    rt: &HostRuntime,
+    out: &mut [u8; 65536],
+    at: &mut usize,
+    log: &mut Log,
+    given: Given,
+) -> Given {
     if given.bytes == 0 {
         return given;
     }
-    unsigned(out, at, given.place, 12);
-    unsigned(out, at, given.bytes, 12);
-    name(out, at, given.why);
+    unsigned(rt, out, at, given.place, 12);
+    unsigned(rt, out, at, given.bytes, 12);
+    name(rt, out, at, given.why);
     let mut now = given;
     now.bytes = 0;
     now.why = 0;
     if 60000 < *at {
-        if !flush(out, at, log) {
+        if !flush(rt, out, at, log) {
             now.is_written = false;
         }
     }
@@ -155,56 +180,67 @@ pub fn row(out: &mut [u8; 65536], at: &mut usize, log: i32, given: Given) -> Giv
 }
 
 // Writes what waits, and answers whether it could be written.
-pub fn flush(out: &[u8; 65536], at: &mut usize, log: i32) -> bool {
+pub fn flush(rt: &HostRuntime, out: &[u8; 65536], at: &mut usize, log: &mut Log) -> bool {
     let n = *at;
     *at = 0;
-    if io::write_all(log, reading::frame_of(out, n)) {
-        return true;
+    match log.write_all(reading::frame_of(out, n)) {
+        Ok(()) => true,
+        Err(error) => {
+            fail(rt, b"list", &error);
+            false
+        }
     }
-    os::fail(b"list");
-    false
 }
 
 // The closing counts, where `fed` is the account before closing and `account` the one behind it.
 pub fn closing(
+    rt: &HostRuntime,
     out: &mut [u8; 65536],
     at: &mut usize,
     fed: Account,
     account: Account,
     given: Given,
 ) {
-    line(out, at, b"  bytes           ", account.bytes);
-    line(out, at, b"  frames fed      ", fed.frames);
-    line(out, at, b"    bytes         ", fed.framed);
+    line(rt, out, at, b"  bytes           ", account.bytes);
+    line(rt, out, at, b"  frames fed      ", fed.frames);
+    line(rt, out, at, b"    bytes         ", fed.framed);
     line(
+        rt,
         out,
         at,
         b"  frames salvaged ",
         num::wrapping_sub_u64(account.frames, fed.frames),
     );
     line(
+        rt,
         out,
         at,
         b"    bytes         ",
         num::wrapping_sub_u64(account.framed, fed.framed),
     );
-    reasons(out, at, account, given);
-    sum(out, at, account, given);
+    reasons(rt, out, at, account, given);
+    sum(rt, out, at, account, given);
 }
 
-fn reasons(out: &mut [u8; 65536], at: &mut usize, account: Account, given: Given) {
-    line(out, at, b"  given up        ", account.skipped);
-    line(out, at, b"    not D3        ", given.not_d3);
-    line(out, at, b"    bad check     ", given.bad_check);
-    line(out, at, b"    unfinished    ", given.unfinished);
+fn reasons(
+    rt: &HostRuntime,
+    out: &mut [u8; 65536],
+    at: &mut usize,
+    account: Account,
+    given: Given,
+) {
+    line(rt, out, at, b"  given up        ", account.skipped);
+    line(rt, out, at, b"    not D3        ", given.not_d3);
+    line(rt, out, at, b"    bad check     ", given.bad_check);
+    line(rt, out, at, b"    unfinished    ", given.unfinished);
 }
 
-fn line(out: &mut [u8; 65536], at: &mut usize, name: &[u8], n: u64) {
-    phrase(out, at, name, n, 12, b"\n");
+fn line(rt: &HostRuntime, out: &mut [u8; 65536], at: &mut usize, name: &[u8], n: u64) {
+    phrase(rt, out, at, name, n, 12, b"\n");
 }
 
 // The sum of the bytes in frames and on the list, which comes out at the bytes read.
-fn sum(out: &mut [u8; 65536], at: &mut usize, account: Account, given: Given) {
+fn sum(rt: &HostRuntime, out: &mut [u8; 65536], at: &mut usize, account: Account, given: Given) {
     let listed = num::wrapping_add_u64(
         num::wrapping_add_u64(given.not_d3, given.bad_check),
         given.unfinished,
@@ -212,6 +248,7 @@ fn sum(out: &mut [u8; 65536], at: &mut usize, account: Account, given: Given) {
     let sum = num::wrapping_add_u64(account.framed, listed);
     if sum == account.bytes {
         phrase(
+            rt,
             out,
             at,
             b"  sum             ",
@@ -222,6 +259,7 @@ fn sum(out: &mut [u8; 65536], at: &mut usize, account: Account, given: Given) {
         return;
     }
     phrase(
+        rt,
         out,
         at,
         b"  sum             ",

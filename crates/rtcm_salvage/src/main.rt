@@ -6,75 +6,84 @@ mod list;
 mod options;
 mod salvage;
 
-use libc::{STDERR_FILENO, STDIN_FILENO};
+use list::Log;
 use options::Asked;
-use reading::arguments;
+use reading::{Source, arguments};
+use std::fs::File;
+use std::io;
 
-fn main() {
-    let asked = options::all();
+fn main(rt: HostRuntime) {
+    let asked = options::all(&rt);
     if asked.help {
-        options::help();
+        options::help(&rt);
         return;
     }
     if asked.version {
-        arguments::version(b"rtcm_salvage");
+        arguments::version(&rt, b"rtcm_salvage");
         return;
     }
-    if !is_right(asked) {
-        arguments::failed(b"rtcm_salvage");
+    if !is_right(&rt, asked) {
+        arguments::failed(&rt, b"rtcm_salvage");
         return;
     }
-    if !salvage_listed(asked) {
-        arguments::failed(b"rtcm_salvage");
+    if !salvage_listed(&rt, asked) {
+        arguments::failed(&rt, b"rtcm_salvage");
     }
 }
 
 // Whether the arguments can be followed. What is wrong with them is said.
-fn is_right(asked: Asked) -> bool {
+fn is_right(rt: &HostRuntime, asked: Asked) -> bool {
     if asked.wrong != 0 {
-        options::say_wrong(asked);
+        options::say_wrong(rt, asked);
         return false;
     }
     if asked.file == 0 {
-        arguments::no_file(b"rtcm_salvage");
+        arguments::no_file(rt, b"rtcm_salvage");
         return false;
     }
     if asked.second != 0 {
-        io::write_all(STDERR_FILENO, b"rtcm_salvage: name one recording\n");
+        printing::say(rt, b"rtcm_salvage: name one recording\n");
         return false;
     }
     true
 }
 
 // Opens the list, which is standard error unless a file is named, and salvages.
-fn salvage_listed(asked: Asked) -> bool {
+fn salvage_listed(rt: &HostRuntime, asked: Asked) -> bool {
     if asked.list == 0 {
-        return salvage_named(asked, STDERR_FILENO);
+        return salvage_named(rt, asked, &mut Log::Errors(rt.stderr()));
     }
-    let mut path = io::buffer();
-    let n = os::arg(asked.list, &mut path);
-    let fd = os::open_overwrite(&path[..n]);
-    if fd < 0 {
-        os::fail(&path[..n]);
-        return false;
+    let mut path = [0u8; 4096];
+    let n = arguments::word(rt, asked.list, &mut path);
+    match created(rt, &path[..n]) {
+        Ok(file) => salvage_named(rt, asked, &mut Log::File(file)),
+        Err(error) => {
+            printing::fail(rt, &path[..n], &error);
+            false
+        }
     }
-    let is_well = salvage_named(asked, fd);
-    libc::close(fd);
-    is_well
+}
+
+// Creates the file, or empties it if it is there.
+fn created(rt: &HostRuntime, path: &[u8]) -> io::Result<File> {
+    File::create(rt, arguments::text_of(path)?)
 }
 
 // Salvages the recording that is named.
-fn salvage_named(asked: Asked, log: i32) -> bool {
-    let mut path = io::buffer();
-    let n = os::arg(asked.file, &mut path);
+fn salvage_named(rt: &HostRuntime, asked: Asked, log: &mut Log) -> bool {
+    let mut path = [0u8; 4096];
+    let n = arguments::word(rt, asked.file, &mut path);
     if asked.input {
-        return salvage::run(STDIN_FILENO, b"standard input", log, asked.salvaged);
+        return salvage::run(
+            rt,
+            &mut Source::Input(rt.stdin()),
+            b"standard input",
+            log,
+            asked.salvaged,
+        );
     }
-    let fd = arguments::open(&path[..n]);
-    if fd < 0 {
-        return false;
+    match arguments::open(rt, &path[..n]) {
+        Some(mut source) => salvage::run(rt, &mut source, &path[..n], log, asked.salvaged),
+        None => false,
     }
-    let is_well = salvage::run(fd, &path[..n], log, asked.salvaged);
-    libc::close(fd);
-    is_well
 }

@@ -1,12 +1,10 @@
 // What the arguments ask for, and what is said to the user.
-use check::same;
-use libc::STDERR_FILENO;
 use reading::arguments;
-use reading::arguments::Kind;
+use reading::arguments::{Kind, same};
 
 // What all the arguments ask for: `list` is the place of the list's name, `wrong` that of the first option that is not
 // known or has no name behind it, `file` and `second` those of recordings, or 0. `input`: the recording is standard input.
-#[derive(Drop)]
+#[derive(Clone, Copy)]
 pub struct Asked {
     pub help: bool,
     pub version: bool,
@@ -19,7 +17,7 @@ pub struct Asked {
 }
 
 // What a word is. `List` is the option, and `Name` the word behind it.
-#[derive(Drop)]
+#[derive(Clone, Copy)]
 enum Word {
     Help,
     Version,
@@ -32,7 +30,7 @@ enum Word {
     File,
 }
 
-pub fn all() -> Asked {
+pub fn all(rt: &HostRuntime) -> Asked {
     let mut asked = Asked {
         help: false,
         version: false,
@@ -46,15 +44,12 @@ pub fn all() -> Asked {
     let mut rest = false;
     let mut is_name = false;
     let mut last: usize = 0;
-    let count = os::arg_count();
-    let mut i: usize = 1;
-    while i < count {
+    for i in 1..arguments::count(rt) {
         last = i;
-        let word = word_at(i, rest, is_name);
+        let word = word_at(rt, i, rest, is_name);
         is_name = is_list(word);
         rest = is_rest(word, rest);
         asked = with(asked, word, i);
-        i += 1;
     }
     if is_name {
         asked = wrong_at(asked, last);
@@ -128,9 +123,9 @@ fn is_rest(word: Word, before: bool) -> bool {
 }
 
 // What the word at place i is: behind `--` a recording, behind `--list` the list's name.
-fn word_at(i: usize, rest: bool, is_name: bool) -> Word {
-    let mut word = io::buffer();
-    let n = os::arg(i, &mut word);
+fn word_at(rt: &HostRuntime, i: usize, rest: bool, is_name: bool) -> Word {
+    let mut word = [0u8; 4096];
+    let n = arguments::word(rt, i, &mut word);
     if is_name {
         return Word::Name;
     }
@@ -156,21 +151,19 @@ fn word_of(kind: Kind) -> Word {
 }
 
 // Says what is wrong with the first wrong word.
-pub fn say_wrong(asked: Asked) {
-    let mut word = io::buffer();
-    let n = os::arg(asked.wrong, &mut word);
+pub fn say_wrong(rt: &HostRuntime, asked: Asked) {
+    let mut word = [0u8; 4096];
+    let n = arguments::word(rt, asked.wrong, &mut word);
     if same(&word[..n], b"--list") {
-        io::write_all(
-            STDERR_FILENO,
-            b"rtcm_salvage: --list needs the name of a file\n",
-        );
+        printing::say(rt, b"rtcm_salvage: --list needs the name of a file\n");
         return;
     }
-    arguments::unknown(b"rtcm_salvage", asked.wrong);
+    arguments::unknown(rt, b"rtcm_salvage", asked.wrong);
 }
 
-pub fn help() {
+pub fn help(rt: &HostRuntime) {
     arguments::tell(
+        rt,
         b"rtcm_salvage",
         b"rtcm_salvage [--salvaged] [--list FILE] [--] FILE
 

@@ -3,14 +3,14 @@ ghost use Rattle.std.specs.Prelude.{◌≡◌};
 ghost use Rattle.reading.specs.Account.{Right, AllTaken};
 
 use crate::list;
-use crate::list::Given;
+use crate::list::{Given, Log};
 use closing::reason;
-use libc::STDOUT_FILENO;
-use reading::{Account, Step, Taken, arguments, skips};
+use reading::{Account, Source, Step, Taken, arguments, skips};
+use std::io::Print;
 use std::num;
 
 // What a part of the work came to.
-#[derive(Drop)]
+#[derive(Clone, Copy)]
 pub enum End {
     // It goes on.
     On,
@@ -22,7 +22,7 @@ pub enum End {
 }
 
 // The account after a part of the work, what was given up, and what it came to.
-#[derive(Drop)]
+#[derive(Clone, Copy)]
 pub struct Done {
     account: Account,
     given: Given,
@@ -30,26 +30,34 @@ pub struct Done {
 }
 
 // Salvages an open recording, and answers whether all went well.
-pub fn run(fd: i32, name: &[u8], log: i32, salvaged: bool) -> bool {
-    let mut out = io::large_buffer();
+pub fn run(
+    rt: &HostRuntime,
+    source: &mut Source,
+    name: &[u8],
+    log: &mut Log,
+    salvaged: bool,
+) -> bool {
+    let mut out = [0u8; 65536];
     let mut at: usize = 0;
     let mut held = [0u8; 1029];
-    list::opening(&mut out, &mut at, name);
-    let fed = feed(fd, name, log, salvaged, &mut held, &mut out, &mut at);
+    list::opening(rt, &mut out, &mut at, name);
+    let fed = feed(
+        rt, source, name, log, salvaged, &mut held, &mut out, &mut at,
+    );
     let account = fed.account;
     let end = fed.end;
     if is_stopped(end) {
         return false;
     }
-    arguments::empty(name, account);
-    let done = close(log, account, fed.given, &mut held, &mut out, &mut at);
+    arguments::empty(rt, name, account);
+    let done = close(rt, log, account, fed.given, &mut held, &mut out, &mut at);
     let closed = done.end;
     if is_stopped(closed) {
         return false;
     }
-    let given = list::row(&mut out, &mut at, log, done.given);
-    list::closing(&mut out, &mut at, account, done.account, given);
-    if !list::flush(&out, &mut at, log) {
+    let given = list::row(rt, &mut out, &mut at, log, done.given);
+    list::closing(rt, &mut out, &mut at, account, done.account, given);
+    if !list::flush(rt, &out, &mut at, log) {
         return false;
     }
     is_well(end, given)
@@ -78,9 +86,10 @@ fn is_well(end: End, given: Given) -> bool {
 
 // Feeds the recording to its end. What is held then is in the area `held`. The account is right.
 fn feed(
-    fd: i32,
+    rt: &HostRuntime,
+    source: &mut Source,
     name: &[u8],
-    log: i32,
+    log: &mut Log,
     salvaged: bool,
     held: &mut [u8; 1029],
     out: &mut [u8; 65536],
@@ -88,14 +97,12 @@ fn feed(
 ) -> Done
     ensures { Right result.account }
 {
-    let mut piece = io::large_buffer();
+    let mut piece = [0u8; 65536];
     let mut frame = [0u8; 1029];
     let mut now = over(reading::start(), list::none(), End::On);
-    let mut turns = u64::MAX;
-    while turns > 0 {
-        turns -= 1;
+    for _ in 0..u64::MAX {
         now = fed(
-            fd, name, log, salvaged, now, held, &mut piece, &mut frame, out, at,
+            rt, source, name, log, salvaged, now, held, &mut piece, &mut frame, out, at,
         );
         let end = now.end;
         if !is_on(end) {
@@ -107,9 +114,10 @@ fn feed(
 
 // One turn of feeding: a frame is written, or the next piece is read.
 fn fed(
-    fd: i32,
+    rt: &HostRuntime,
+    source: &mut Source,
     name: &[u8],
-    log: i32,
+    log: &mut Log,
     salvaged: bool,
     now: Done,
     held: &mut [u8; 1029],
@@ -128,27 +136,31 @@ fn fed(
             kind: _,
             account: a,
         } => {
-            let given = skipped(log, now.account, a, now.given, &before, piece, out, at);
-            over(a, given, written(salvaged, frame, length))
+            let given = skipped(rt, log, now.account, a, now.given, &before, piece, out, at);
+            over(a, given, written(rt, salvaged, frame, length))
         }
         Taken::All(a) => {
-            let given = skipped(log, now.account, a, now.given, &before, piece, out, at);
-            refilled(fd, name, piece, a, given)
+            let given = skipped(rt, log, now.account, a, now.given, &before, piece, out, at);
+            refilled(rt, source, name, piece, a, given)
         }
         Taken::Failed(a) => over(a, now.given, End::Failed),
     }
 }
 
 // Reads the next piece, behind which the recording goes on, or comes to its end.
-fn refilled(fd: i32, name: &[u8], piece: &mut [u8; 65536], account: Account, given: Given) -> Done
+fn refilled(
+    rt: &HostRuntime,
+    source: &mut Source,
+    name: &[u8],
+    piece: &mut [u8; 65536],
+    account: Account,
+    given: Given,
+) -> Done
     ensures { AllTaken account → Right result.account }
 {
-    match reading::refill(fd, piece, account) {
+    match reading::refill(rt, source, name, piece, account) {
         Step::Piece(b) => over(b, given, End::On),
-        Step::Failed(b) => {
-            os::fail(name);
-            over(b, given, End::Failed)
-        }
+        Step::Failed(b) => over(b, given, End::Failed),
         _ => over(account, given, End::Well),
     }
 }
@@ -165,7 +177,8 @@ fn over(account: Account, given: Given, end: End) -> Done
 
 // Closes the recording: hands out what is held, until nothing is. The account is right.
 fn close(
-    log: i32,
+    rt: &HostRuntime,
+    log: &mut Log,
     account: Account,
     given: Given,
     held: &mut [u8; 1029],
@@ -176,10 +189,8 @@ fn close(
 {
     let mut frame = [0u8; 1029];
     let mut now = over(account, given, End::On);
-    let mut turns: u32 = 1030;
-    while turns > 0 {
-        turns -= 1;
-        now = closed(log, now, held, &mut frame, out, at);
+    for _ in 0..1030u32 {
+        now = closed(rt, log, now, held, &mut frame, out, at);
         let end = now.end;
         if !is_on(end) {
             return now;
@@ -190,7 +201,8 @@ fn close(
 
 // One turn of closing: a frame is written, or all that is held is given up.
 fn closed(
-    log: i32,
+    rt: &HostRuntime,
+    log: &mut Log,
     now: Done,
     held: &mut [u8; 1029],
     frame: &mut [u8; 1029],
@@ -207,11 +219,11 @@ fn closed(
             kind: _,
             account: a,
         } => {
-            let given = given_up(log, now.account, a, now.given, &before, out, at);
-            over(a, given, written(false, frame, length))
+            let given = given_up(rt, log, now.account, a, now.given, &before, out, at);
+            over(a, given, written(rt, false, frame, length))
         }
         Taken::All(a) => {
-            let given = given_up(log, now.account, a, now.given, &before, out, at);
+            let given = given_up(rt, log, now.account, a, now.given, &before, out, at);
             over(a, given, End::Well)
         }
         Taken::Failed(a) => over(a, now.given, End::Failed),
@@ -219,20 +231,23 @@ fn closed(
 }
 
 // Writes the frame, unless it is left out. The work goes on if that could be done.
-fn written(left_out: bool, frame: &[u8; 1029], length: usize) -> End {
+fn written(rt: &HostRuntime, left_out: bool, frame: &[u8; 1029], length: usize) -> End {
     if left_out {
         return End::On;
     }
-    if io::write_all(STDOUT_FILENO, reading::frame_of(frame, length)) {
-        return End::On;
+    match Print::write_all(rt, reading::frame_of(frame, length)) {
+        Ok(()) => End::On,
+        Err(error) => {
+            printing::fail(rt, b"standard output", &error);
+            End::Stopped
+        }
     }
-    os::fail(b"standard output");
-    End::Stopped
 }
 
 // Lists what a feeding call skipped: the first bytes of those held before it and of the piece.
 fn skipped(
-    log: i32,
+    rt: &HostRuntime,
+    log: &mut Log,
     from: Account,
     to: Account,
     listed: Given,
@@ -244,19 +259,26 @@ fn skipped(
     let n = num::wrapping_sub_u64(to.skipped, from.skipped);
     let start = num::wrapping_add_u64(from.framed, from.skipped);
     let mut given = listed;
-    let mut i: u64 = 0;
-    while i < n {
+    for i in 0..n {
         let byte = skips::byte_at(before, from.held, piece, from.from, i as usize);
         let why = list::of_skip(reason::skipped(byte));
-        given = list::add(out, at, log, given, num::wrapping_add_u64(start, i), why);
-        i += 1;
+        given = list::add(
+            rt,
+            out,
+            at,
+            log,
+            given,
+            num::wrapping_add_u64(start, i),
+            why,
+        );
     }
     given
 }
 
 // Lists what a closing call gave up: the first bytes of those held before it.
 fn given_up(
-    log: i32,
+    rt: &HostRuntime,
+    log: &mut Log,
     from: Account,
     to: Account,
     listed: Given,
@@ -268,11 +290,17 @@ fn given_up(
     let start = num::wrapping_add_u64(from.framed, from.skipped);
     let all = reading::frame_of(before, from.held);
     let mut given = listed;
-    let mut i: u64 = 0;
-    while i < n {
+    for i in 0..n {
         let why = list::of_ruled(reason::at(all, i as usize));
-        given = list::add(out, at, log, given, num::wrapping_add_u64(start, i), why);
-        i += 1;
+        given = list::add(
+            rt,
+            out,
+            at,
+            log,
+            given,
+            num::wrapping_add_u64(start, i),
+            why,
+        );
     }
     given
 }

@@ -10,11 +10,11 @@ mod table;
 use options::Ways;
 use reading::arguments::Kind;
 use reading::skips::Skips;
-use reading::{Account, Step, Taken, arguments, skips};
+use reading::{Account, Source, Step, Taken, arguments, skips};
 use std::num;
 
 // What a recording, or all of them, came to.
-#[derive(Drop)]
+#[derive(Clone, Copy)]
 enum End {
     // It goes on.
     On,
@@ -26,51 +26,49 @@ enum End {
 }
 
 // The account of a recording, what was skipped, and what it came to.
-#[derive(Drop)]
+#[derive(Clone, Copy)]
 struct Scanned {
     account: Account,
     skips: Skips,
     end: End,
 }
 
-fn main() {
-    let asked = options::all();
+fn main(rt: HostRuntime) {
+    let asked = options::all(&rt);
     if asked.help {
-        options::help();
+        options::help(&rt);
         return;
     }
     if asked.version {
-        arguments::version(b"rtcm_scan");
+        arguments::version(&rt, b"rtcm_scan");
         return;
     }
     if asked.unknown != 0 {
-        arguments::unknown(b"rtcm_scan", asked.unknown);
-        arguments::failed(b"rtcm_scan");
+        arguments::unknown(&rt, b"rtcm_scan", asked.unknown);
+        arguments::failed(&rt, b"rtcm_scan");
         return;
     }
     if asked.file == 0 {
-        arguments::no_file(b"rtcm_scan");
-        arguments::failed(b"rtcm_scan");
+        arguments::no_file(&rt, b"rtcm_scan");
+        arguments::failed(&rt, b"rtcm_scan");
         return;
     }
     let ways = Ways {
         quiet: asked.quiet,
         mode: asked.mode,
     };
-    if !scan_all(ways, asked.rest) {
-        arguments::failed(b"rtcm_scan");
+    if !scan_all(&rt, ways, asked.rest) {
+        arguments::failed(&rt, b"rtcm_scan");
     }
 }
 
 // Scans what the arguments name, one after another, and answers whether all went well.
-fn scan_all(ways: Ways, rest: usize) -> bool {
-    let mut out = io::large_buffer();
+fn scan_all(rt: &HostRuntime, ways: Ways, rest: usize) -> bool {
+    let mut out = [0u8; 65536];
     let mut at: usize = 0;
     let mut is_well = true;
-    let count = os::arg_count();
-    let mut i: usize = 1;
-    while i < count {
-        match scan_argument(i, ways, rest, &mut out, &mut at) {
+    for i in 1..arguments::count(rt) {
+        match scan_argument(rt, i, ways, rest, &mut out, &mut at) {
             End::Failed => {
                 is_well = false;
             }
@@ -79,49 +77,70 @@ fn scan_all(ways: Ways, rest: usize) -> bool {
             }
             _ => {}
         }
-        i += 1;
     }
     is_well
 }
 
 // Scans what argument i names.
-fn scan_argument(i: usize, ways: Ways, rest: usize, out: &mut [u8; 65536], at: &mut usize) -> End {
-    let mut word = io::buffer();
-    let n = os::arg(i, &mut word);
-    if os::errno() != 0 {
-        os::fail(b"argument");
+fn scan_argument(
+    rt: &HostRuntime,
+    i: usize,
+    ways: Ways,
+    rest: usize,
+    out: &mut [u8; 65536],
+    at: &mut usize,
+) -> End {
+    let mut word = [0u8; 4096];
+    let Some(n) = arguments::named(rt, i, &mut word) else {
         return End::Failed;
-    }
+    };
     match options::kind_of(&word[..n], i, rest) {
-        Kind::File => scan_path(&word[..n], ways, out, at),
-        Kind::Input => scan_open(0, b"standard input", ways, out, at),
+        Kind::File => scan_path(rt, &word[..n], ways, out, at),
+        Kind::Input => scan_open(
+            rt,
+            &mut Source::Input(rt.stdin()),
+            b"standard input",
+            ways,
+            out,
+            at,
+        ),
         _ => End::Well,
     }
 }
 
-fn scan_path(path: &[u8], ways: Ways, out: &mut [u8; 65536], at: &mut usize) -> End {
-    let fd = arguments::open(path);
-    if fd < 0 {
-        return End::Failed;
+fn scan_path(
+    rt: &HostRuntime,
+    path: &[u8],
+    ways: Ways,
+    out: &mut [u8; 65536],
+    at: &mut usize,
+) -> End {
+    match arguments::open(rt, path) {
+        Some(mut source) => scan_open(rt, &mut source, path, ways, out, at),
+        None => End::Failed,
     }
-    let end = scan_open(fd, path, ways, out, at);
-    libc::close(fd);
-    end
 }
 
 // Scans an open recording, and writes its rows and its closing table.
-fn scan_open(fd: i32, name: &[u8], ways: Ways, out: &mut [u8; 65536], at: &mut usize) -> End {
+fn scan_open(
+    rt: &HostRuntime,
+    source: &mut Source,
+    name: &[u8],
+    ways: Ways,
+    out: &mut [u8; 65536],
+    at: &mut usize,
+) -> End {
     let mut numbers = [0u64; 4097];
-    let scanned = scan(fd, name, ways, &mut numbers, out, at);
+    let scanned = scan(rt, source, name, ways, &mut numbers, out, at);
     let account = scanned.account;
     let end = scanned.end;
     if is_stopped(end) {
         return End::Stopped;
     }
     if account.bytes != 0 {
-        table::closing(out, at, account, scanned.skips, &numbers);
+        table::closing(rt, out, at, account, scanned.skips, &numbers);
     }
-    if !printing::flush(out, at) {
+    if !printing::flush(rt, out, at) {
         return End::Stopped;
     }
     end
@@ -144,7 +163,8 @@ fn is_stopped(end: End) -> bool {
 // Goes through the frames, each row being written when its frame has arrived, and hands back the account at the end,
 // which is right.
 fn scan(
-    fd: i32,
+    rt: &HostRuntime,
+    source: &mut Source,
     name: &[u8],
     ways: Ways,
     numbers: &mut [u64; 4097],
@@ -154,14 +174,12 @@ fn scan(
     ensures { Right result.account }
 {
     let mut held = [0u8; 1029];
-    let mut piece = io::large_buffer();
+    let mut piece = [0u8; 65536];
     let mut frame = [0u8; 1029];
     let mut now = over(reading::start_in(ways.mode), skips::none(), End::On);
-    let mut turns = u64::MAX;
-    while turns > 0 {
-        turns -= 1;
+    for _ in 0..u64::MAX {
         now = turned(
-            fd, name, ways, now, &mut held, &mut piece, &mut frame, numbers, out, at,
+            rt, source, name, ways, now, &mut held, &mut piece, &mut frame, numbers, out, at,
         );
         let end = now.end;
         if !is_on(end) {
@@ -173,7 +191,8 @@ fn scan(
 
 // One turn: a frame is shown, or the next piece is read.
 fn turned(
-    fd: i32,
+    rt: &HostRuntime,
+    source: &mut Source,
     name: &[u8],
     ways: Ways,
     now: Scanned,
@@ -195,12 +214,12 @@ fn turned(
             account: a,
         } => {
             let skips = skipped(now.skips, now.account, a, &before, piece);
-            table::frame(out, at, ways, place, length, frame, numbers);
-            over(a, skips, shown(ways.quiet, out, at))
+            table::frame(rt, out, at, ways, place, length, frame, numbers);
+            over(a, skips, shown(rt, ways.quiet, out, at))
         }
         Taken::All(a) => {
             let skips = skipped(now.skips, now.account, a, &before, piece);
-            refilled(fd, name, ways, piece, a, skips, out, at)
+            refilled(rt, source, name, ways, piece, a, skips, out, at)
         }
         Taken::Failed(a) => over(a, now.skips, End::Failed),
     }
@@ -208,7 +227,8 @@ fn turned(
 
 // Reads the next piece, behind which the recording goes on, or comes to its end.
 fn refilled(
-    fd: i32,
+    rt: &HostRuntime,
+    source: &mut Source,
     name: &[u8],
     ways: Ways,
     piece: &mut [u8; 65536],
@@ -219,17 +239,14 @@ fn refilled(
 ) -> Scanned
     ensures { AllTaken account → Right result.account }
 {
-    match reading::refill(fd, piece, account) {
+    match reading::refill(rt, source, name, piece, account) {
         Step::Piece(b) => {
-            table::opening(out, at, name, ways, account);
+            table::opening(rt, out, at, name, ways, account);
             over(b, skips, End::On)
         }
-        Step::Failed(b) => {
-            os::fail(name);
-            over(b, skips, End::Failed)
-        }
+        Step::Failed(b) => over(b, skips, End::Failed),
         _ => {
-            arguments::empty(name, account);
+            arguments::empty(rt, name, account);
             over(account, skips, End::Well)
         }
     }
@@ -255,21 +272,19 @@ fn skipped(
 ) -> Skips {
     let n = num::wrapping_sub_u64(to.skipped, from.skipped);
     let mut skips = counted;
-    let mut i: u64 = 0;
-    while i < n {
+    for i in 0..n {
         let byte = skips::byte_at(before, from.held, piece, from.from, i as usize);
         skips = skips::count(skips, byte);
-        i += 1;
     }
     skips
 }
 
 // Writes the row that waits, if there are rows. The work goes on if that could be done.
-fn shown(quiet: bool, out: &[u8; 65536], at: &mut usize) -> End {
+fn shown(rt: &HostRuntime, quiet: bool, out: &[u8; 65536], at: &mut usize) -> End {
     if quiet {
         return End::On;
     }
-    if printing::flush(out, at) {
+    if printing::flush(rt, out, at) {
         return End::On;
     }
     End::Stopped

@@ -1,11 +1,10 @@
 // What the arguments ask for, and what is said to the user.
-use check::same;
 use reading::arguments;
-use reading::arguments::Kind;
+use reading::arguments::{Kind, same};
 
 // What all the arguments ask for: `unknown` is the place of the first option that is not known, `rest` that of `--`, and
 // `file` that of a recording, or 0.
-#[derive(Drop)]
+#[derive(Clone, Copy)]
 pub struct Asked {
     pub help: bool,
     pub version: bool,
@@ -17,13 +16,13 @@ pub struct Asked {
 }
 
 // How a recording is shown, and the mode of its scanner.
-#[derive(Drop)]
+#[derive(Clone, Copy)]
 pub struct Ways {
     pub quiet: bool,
     pub mode: u32,
 }
 
-pub fn all() -> Asked {
+pub fn all(rt: &HostRuntime) -> Asked {
     let mut asked = Asked {
         help: false,
         version: false,
@@ -33,17 +32,15 @@ pub fn all() -> Asked {
         rest: 0,
         file: 0,
     };
-    let count = os::arg_count();
-    let mut i: usize = 1;
-    while i < count {
-        asked = with(asked, kind_at(i, asked.rest), i);
-        i += 1;
+    for i in 1..arguments::count(rt) {
+        let kind = kind_at(rt, i, asked.rest);
+        asked = with(rt, asked, kind, i);
     }
     asked
 }
 
 // What is asked for with argument i.
-fn with(asked: Asked, kind: Kind, i: usize) -> Asked {
+fn with(rt: &HostRuntime, asked: Asked, kind: Kind, i: usize) -> Asked {
     let mut now = asked;
     match kind {
         Kind::Help => {
@@ -53,8 +50,8 @@ fn with(asked: Asked, kind: Kind, i: usize) -> Asked {
             now.version = true;
         }
         Kind::Own => {
-            now.mode = mode_by(i, asked.mode);
-            now.quiet = quiet_by(i, asked.quiet);
+            now.mode = mode_by(rt, i, asked.mode);
+            now.quiet = quiet_by(rt, i, asked.quiet);
         }
         Kind::Rest => {
             now.rest = i;
@@ -75,25 +72,25 @@ fn first(a: usize, b: usize) -> usize {
 }
 
 // What argument i is, where the place of `--` is `rest`.
-fn kind_at(i: usize, rest: usize) -> Kind {
-    let mut word = io::buffer();
-    let n = os::arg(i, &mut word);
+fn kind_at(rt: &HostRuntime, i: usize, rest: usize) -> Kind {
+    let mut word = [0u8; 4096];
+    let n = arguments::word(rt, i, &mut word);
     kind_of(&word[..n], i, rest)
 }
 
 // The mode, once the own option at place i is heeded; and whether there are no rows.
-fn mode_by(i: usize, mode: u32) -> u32 {
-    if is_ubx(i) { 1 } else { mode }
+fn mode_by(rt: &HostRuntime, i: usize, mode: u32) -> u32 {
+    if is_ubx(rt, i) { 1 } else { mode }
 }
 
-fn quiet_by(i: usize, quiet: bool) -> bool {
-    if is_ubx(i) { quiet } else { true }
+fn quiet_by(rt: &HostRuntime, i: usize, quiet: bool) -> bool {
+    if is_ubx(rt, i) { quiet } else { true }
 }
 
 // Whether argument i is the option --ubx.
-fn is_ubx(i: usize) -> bool {
-    let mut word = io::buffer();
-    let n = os::arg(i, &mut word);
+fn is_ubx(rt: &HostRuntime, i: usize) -> bool {
+    let mut word = [0u8; 4096];
+    let n = arguments::word(rt, i, &mut word);
     same(&word[..n], b"--ubx")
 }
 
@@ -110,8 +107,9 @@ pub fn kind_of(word: &[u8], i: usize, rest: usize) -> Kind {
     arguments::kind_of(word, b"--quiet")
 }
 
-pub fn help() {
+pub fn help(rt: &HostRuntime) {
     arguments::tell(
+        rt,
         b"rtcm_scan",
         b"rtcm_scan [--quiet] [--ubx] [--] FILE..
 

@@ -6,19 +6,27 @@ use reading::skips::Skips;
 use std::num;
 
 // Before the first piece: the name, and the heads of the columns.
-pub fn opening(out: &mut [u8; 65536], at: &mut usize, name: &[u8], ways: Ways, account: Account) {
+pub fn opening(
+    rt: &HostRuntime,
+    out: &mut [u8; 65536],
+    at: &mut usize,
+    name: &[u8],
+    ways: Ways,
+    account: Account,
+) {
     if account.bytes != 0 {
         return;
     }
-    text(out, at, name);
-    text(out, at, b"\n");
+    text(rt, out, at, name);
+    text(rt, out, at, b"\n");
     if !ways.quiet {
-        text(out, at, b"       place  length  kind  message\n");
+        text(rt, out, at, b"       place  length  kind  message\n");
     }
 }
 
 // Counts the frame under its message number, and adds its row. A UBX frame begins with B5.
 pub fn frame(
+    rt: &HostRuntime,
     out: &mut [u8; 65536],
     at: &mut usize,
     ways: Ways,
@@ -28,22 +36,23 @@ pub fn frame(
     numbers: &mut [u64; 4097],
 ) {
     if bytes[0] == 0xB5 {
-        ubx(out, at, ways, place, length, bytes);
+        ubx(rt, out, at, ways, place, length, bytes);
         return;
     }
     let number = reading::number_of(reading::frame_of(bytes, length));
     count(numbers, number);
     if !ways.quiet {
-        unsigned(out, at, place, 12);
-        unsigned(out, at, length as u64, 8);
-        text(out, at, b"  RTCM");
-        message(out, at, number);
-        text(out, at, b"\n");
+        unsigned(rt, out, at, place, 12);
+        unsigned(rt, out, at, length as u64, 8);
+        text(rt, out, at, b"  RTCM");
+        message(rt, out, at, number);
+        text(rt, out, at, b"\n");
     }
 }
 
 // The row of a UBX frame: its message is its class and its id.
 fn ubx(
+    rt: &HostRuntime,
     out: &mut [u8; 65536],
     at: &mut usize,
     ways: Ways,
@@ -52,13 +61,13 @@ fn ubx(
     bytes: &[u8; 1029],
 ) {
     if !ways.quiet {
-        unsigned(out, at, place, 12);
-        unsigned(out, at, length as u64, 8);
-        text(out, at, b"   UBX    ");
-        hex(out, at, wide(bytes[2]), 2);
-        text(out, at, b" ");
-        hex(out, at, wide(bytes[3]), 2);
-        text(out, at, b"\n");
+        unsigned(rt, out, at, place, 12);
+        unsigned(rt, out, at, length as u64, 8);
+        text(rt, out, at, b"   UBX    ");
+        hex(rt, out, at, wide(bytes[2]), 2);
+        text(rt, out, at, b" ");
+        hex(rt, out, at, wide(bytes[3]), 2);
+        text(rt, out, at, b"\n");
     }
 }
 
@@ -74,58 +83,66 @@ fn count(numbers: &mut [u64; 4097], number: u64) {
 }
 
 // A message number, or `-` for 4,096.
-fn message(out: &mut [u8; 65536], at: &mut usize, number: u64) {
+fn message(rt: &HostRuntime, out: &mut [u8; 65536], at: &mut usize, number: u64) {
     if number < 4096 {
-        unsigned(out, at, number, 9);
+        unsigned(rt, out, at, number, 9);
         return;
     }
-    text(out, at, b"        -");
+    text(rt, out, at, b"        -");
 }
 
 // The closing table: the account, and the frames of each message number.
 pub fn closing(
+    rt: &HostRuntime,
     out: &mut [u8; 65536],
     at: &mut usize,
     account: Account,
     skips: Skips,
     numbers: &[u64; 4097],
 ) {
-    line(out, at, b"  bytes           ", account.bytes);
-    line(out, at, b"  frames          ", account.frames);
-    line(out, at, b"  bytes in frames ", account.framed);
-    line(out, at, b"  skipped         ", account.skipped);
-    reasons(out, at, account, skips);
-    line(out, at, b"  held            ", account.held as u64);
-    sum(out, at, account);
-    by_number(out, at, numbers);
-    text(out, at, b"\n");
+    line(rt, out, at, b"  bytes           ", account.bytes);
+    line(rt, out, at, b"  frames          ", account.frames);
+    line(rt, out, at, b"  bytes in frames ", account.framed);
+    line(rt, out, at, b"  skipped         ", account.skipped);
+    reasons(rt, out, at, account, skips);
+    line(rt, out, at, b"  held            ", account.held as u64);
+    sum(rt, out, at, account);
+    by_number(rt, out, at, numbers);
+    text(rt, out, at, b"\n");
 }
 
 // How many bytes were skipped for which reason. To a scanner for RTCM alone a B5 is a byte that is not D3.
-fn reasons(out: &mut [u8; 65536], at: &mut usize, account: Account, skips: Skips) {
+fn reasons(
+    rt: &HostRuntime,
+    out: &mut [u8; 65536],
+    at: &mut usize,
+    account: Account,
+    skips: Skips,
+) {
     if account.mode == 0 {
         let others = num::wrapping_add_u64(skips.others, skips.b5);
-        line(out, at, b"    not D3        ", others);
-        line(out, at, b"    bad check     ", skips.d3);
+        line(rt, out, at, b"    not D3        ", others);
+        line(rt, out, at, b"    bad check     ", skips.d3);
         return;
     }
-    line(out, at, b"    not D3 or B5  ", skips.others);
-    line(out, at, b"    bad check     ", skips.d3);
-    line(out, at, b"    bad UBX       ", skips.b5);
+    line(rt, out, at, b"    not D3 or B5  ", skips.others);
+    line(rt, out, at, b"    bad check     ", skips.d3);
+    line(rt, out, at, b"    bad UBX       ", skips.b5);
 }
 
-fn line(out: &mut [u8; 65536], at: &mut usize, name: &[u8], n: u64) {
-    phrase(out, at, name, n, 12, b"\n");
+fn line(rt: &HostRuntime, out: &mut [u8; 65536], at: &mut usize, name: &[u8], n: u64) {
+    phrase(rt, out, at, name, n, 12, b"\n");
 }
 
 // The sum of the bytes in frames, skipped and held, which comes out at the bytes read.
-fn sum(out: &mut [u8; 65536], at: &mut usize, account: Account) {
+fn sum(rt: &HostRuntime, out: &mut [u8; 65536], at: &mut usize, account: Account) {
     let sum = num::wrapping_add_u64(
         num::wrapping_add_u64(account.framed, account.skipped),
         account.held as u64,
     );
     if sum == account.bytes {
         phrase(
+            rt,
             out,
             at,
             b"  sum             ",
@@ -136,6 +153,7 @@ fn sum(out: &mut [u8; 65536], at: &mut usize, account: Account) {
         return;
     }
     phrase(
+        rt,
         out,
         at,
         b"  sum             ",
@@ -145,19 +163,17 @@ fn sum(out: &mut [u8; 65536], at: &mut usize, account: Account) {
     );
 }
 
-fn by_number(out: &mut [u8; 65536], at: &mut usize, numbers: &[u64; 4097]) {
-    let mut i: usize = 0;
-    while i < 4097 {
-        of_number(out, at, i as u64, numbers[i]);
-        i += 1;
+fn by_number(rt: &HostRuntime, out: &mut [u8; 65536], at: &mut usize, numbers: &[u64; 4097]) {
+    for i in 0..4097 {
+        of_number(rt, out, at, i as u64, numbers[i]);
     }
 }
 
-fn of_number(out: &mut [u8; 65536], at: &mut usize, number: u64, n: u64) {
+fn of_number(rt: &HostRuntime, out: &mut [u8; 65536], at: &mut usize, number: u64, n: u64) {
     if n == 0 {
         return;
     }
-    text(out, at, b"  message");
-    message(out, at, number);
-    phrase(out, at, b"", n, 12, b"\n");
+    text(rt, out, at, b"  message");
+    message(rt, out, at, number);
+    phrase(rt, out, at, b"", n, 12, b"\n");
 }

@@ -3,7 +3,6 @@
 
 use frames::fate;
 use frames::fate::Fate;
-use libc::STDERR_FILENO;
 use printing::{phrase, text};
 use reading::asked::Asked;
 use reading::load::Loaded;
@@ -17,23 +16,24 @@ enum Place {
     None,
 }
 
-fn main() {
-    let asked = asked::all();
+fn main(rt: HostRuntime) {
+    let asked = asked::all(&rt);
     if asked.help {
-        help();
+        help(&rt);
         return;
     }
     if asked.version {
-        arguments::version(b"rtcm_why");
+        arguments::version(&rt, b"rtcm_why");
         return;
     }
-    if !answered(asked) {
-        arguments::failed(b"rtcm_why");
+    if !answered(&rt, asked) {
+        arguments::failed(&rt, b"rtcm_why");
     }
 }
 
-fn help() {
+fn help(rt: &HostRuntime) {
     arguments::tell(
+        rt,
         b"rtcm_why",
         b"rtcm_why [--] FILE PLACE
 
@@ -52,22 +52,23 @@ The exit status is always 0. If something failed, the last line on standard erro
 }
 
 // Answers what the arguments ask, and tells whether that went well.
-fn answered(asked: Asked) -> bool {
+fn answered(rt: &HostRuntime, asked: Asked) -> bool {
     if asked.unknown != 0 {
-        arguments::unknown(b"rtcm_why", asked.unknown);
+        arguments::unknown(rt, b"rtcm_why", asked.unknown);
         return false;
     }
     if asked.second == 0 {
-        return misnamed();
+        return misnamed(rt);
     }
     if asked.third != 0 {
-        return misnamed();
+        return misnamed(rt);
     }
-    answer(asked.first, asked.second, asked.rest)
+    answer(rt, asked.first, asked.second, asked.rest)
 }
 
-fn misnamed() -> bool {
+fn misnamed(rt: &HostRuntime) -> bool {
     arguments::misnamed(
+        rt,
         b"rtcm_why",
         b"a recording and a place in it, counted from 0",
     );
@@ -75,25 +76,25 @@ fn misnamed() -> bool {
 }
 
 // Says what became of the byte at the place that one argument names, in the file that another names.
-fn answer(file: usize, word: usize, rest: usize) -> bool {
-    let Place::At(place) = place_at(word) else {
-        return misnamed();
+fn answer(rt: &HostRuntime, file: usize, word: usize, rest: usize) -> bool {
+    let Place::At(place) = place_at(rt, word) else {
+        return misnamed(rt);
     };
-    let mut recording = io::large_buffer();
-    let Loaded::Bytes(n) = load::load(file, rest, &mut recording) else {
+    let mut recording = [0u8; 65536];
+    let Loaded::Bytes(n) = load::load(rt, file, rest, &mut recording) else {
         return false;
     };
-    show_fate(&recording, n, place)
+    show_fate(rt, &recording, n, place)
 }
 
 // Says what became of the byte at the place, among the first n bytes.
-fn show_fate(recording: &[u8; 65536], n: usize, place: usize) -> bool {
-    show(fate::of(reading::frame_of(recording, n), place))
+fn show_fate(rt: &HostRuntime, recording: &[u8; 65536], n: usize, place: usize) -> bool {
+    show(rt, fate::of(reading::frame_of(recording, n), place))
 }
 
-fn place_at(i: usize) -> Place {
-    let mut word = io::buffer();
-    let n = os::arg(i, &mut word);
+fn place_at(rt: &HostRuntime, i: usize) -> Place {
+    let mut word = [0u8; 4096];
+    let n = arguments::word(rt, i, &mut word);
     if n == 0 {
         return Place::None;
     }
@@ -103,9 +104,7 @@ fn place_at(i: usize) -> Place {
 // The number that the digits make. One of more than six digits lies past every recording, as 65,536 does.
 fn digits(word: &[u8]) -> Place {
     let mut place: usize = 0;
-    let mut i: usize = 0;
-    while i < word.len() {
-        let d = word[i];
+    for &d in word {
         if d < b'0' {
             return Place::None;
         }
@@ -116,50 +115,58 @@ fn digits(word: &[u8]) -> Place {
             return Place::At(65536);
         }
         place = place * 10 + (d - b'0') as usize;
-        i += 1;
     }
     Place::At(place)
 }
 
 // Writes what became of the byte, and tells whether it could be written.
-fn show(fate: Fate) -> bool {
-    let mut out = io::large_buffer();
+fn show(rt: &HostRuntime, fate: Fate) -> bool {
+    let mut out = [0u8; 65536];
     let mut at: usize = 0;
     match fate {
         Fate::InFrame { place, length } => {
-            in_frame(place as u64, length as u64, &mut out, &mut at);
+            in_frame(rt, place as u64, length as u64, &mut out, &mut at);
         }
-        Fate::NotD3(place) => not_d3(place as u64, &mut out, &mut at),
+        Fate::NotD3(place) => not_d3(rt, place as u64, &mut out, &mut at),
         Fate::BadCheck {
             place,
             sent,
             computed,
         } => bad_check(
+            rt,
             place as u64,
             sent as u64,
             computed as u64,
             &mut out,
             &mut at,
         ),
-        Fate::Held { place, length } => held(place as u64, length as u64, &mut out, &mut at),
+        Fate::Held { place, length } => held(rt, place as u64, length as u64, &mut out, &mut at),
         Fate::Size => {
-            return refused();
+            return refused(rt);
         }
     }
-    printing::flush(&out, &mut at)
+    printing::flush(rt, &out, &mut at)
 }
 
-fn in_frame(place: u64, length: u64, out: &mut [u8; 65536], at: &mut usize) {
-    phrase(out, at, b"in the frame at ", place, 0, b", ");
-    phrase(out, at, b"which has ", length, 0, b" bytes\n");
+fn in_frame(rt: &HostRuntime, place: u64, length: u64, out: &mut [u8; 65536], at: &mut usize) {
+    phrase(rt, out, at, b"in the frame at ", place, 0, b", ");
+    phrase(rt, out, at, b"which has ", length, 0, b" bytes\n");
 }
 
-fn not_d3(place: u64, out: &mut [u8; 65536], at: &mut usize) {
-    phrase(out, at, b"skipped at ", place, 0, b": it is not D3\n");
+fn not_d3(rt: &HostRuntime, place: u64, out: &mut [u8; 65536], at: &mut usize) {
+    phrase(rt, out, at, b"skipped at ", place, 0, b": it is not D3\n");
 }
 
-fn bad_check(place: u64, sent: u64, computed: u64, out: &mut [u8; 65536], at: &mut usize) {
+fn bad_check(
+    rt: &HostRuntime,
+    place: u64,
+    sent: u64,
+    computed: u64,
+    out: &mut [u8; 65536],
+    at: &mut usize,
+) {
     phrase(
+        rt,
         out,
         at,
         b"skipped at ",
@@ -167,14 +174,15 @@ fn bad_check(place: u64, sent: u64, computed: u64, out: &mut [u8; 65536], at: &m
         0,
         b": a D3 whose checksum is wrong, ",
     );
-    printing::hex(out, at, sent, 6);
-    text(out, at, b" sent and ");
-    printing::hex(out, at, computed, 6);
-    text(out, at, b" computed\n");
+    printing::hex(rt, out, at, sent, 6);
+    text(rt, out, at, b" sent and ");
+    printing::hex(rt, out, at, computed, 6);
+    text(rt, out, at, b" computed\n");
 }
 
-fn held(place: u64, length: u64, out: &mut [u8; 65536], at: &mut usize) {
+fn held(rt: &HostRuntime, place: u64, length: u64, out: &mut [u8; 65536], at: &mut usize) {
     phrase(
+        rt,
         out,
         at,
         b"held from the unfinished candidate at ",
@@ -182,12 +190,12 @@ fn held(place: u64, length: u64, out: &mut [u8; 65536], at: &mut usize) {
         0,
         b" on, ",
     );
-    phrase(out, at, b"", length, 0, b" bytes to the end\n");
+    phrase(rt, out, at, b"", length, 0, b" bytes to the end\n");
 }
 
-fn refused() -> bool {
-    io::write_all(
-        STDERR_FILENO,
+fn refused(rt: &HostRuntime) -> bool {
+    printing::say(
+        rt,
         b"refused with Size: the place is at or past the end of the recording\n",
     );
     false

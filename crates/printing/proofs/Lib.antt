@@ -1,2 +1,0 @@
-pub mod GatheredLaws
-pub mod NumberLaws
