@@ -1,2 +1,6 @@
-mod AccountLaws
-mod AskedLaws
+pub mod SumLaws
+pub mod AccountLaws
+pub mod NumberLaws
+pub mod ArgumentLaws
+pub mod AskedLaws
+pub mod SkipLaws

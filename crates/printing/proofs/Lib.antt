@@ -1,0 +1,2 @@
+pub mod GatheredLaws
+pub mod NumberLaws
