@@ -9,7 +9,7 @@ ghost use Rattle.bits.specs.Steps.{limits_of, put_where_room};
 use crate::{raw, signed};
 
 // What reading a field as an unsigned number answers: the number and the bit behind the field; or a refusal.
-#[derive(Drop)]
+#[derive(Clone, Copy)]
 pub enum Unsigned {
     Value(u64, usize),
     Size,
@@ -19,7 +19,7 @@ pub enum Unsigned {
 }
 
 // What reading a field as a signed number answers: the number and the bit behind the field; or a refusal.
-#[derive(Drop)]
+#[derive(Clone, Copy)]
 pub enum Signed {
     Value(i64, usize),
     Size,
@@ -29,7 +29,7 @@ pub enum Signed {
 }
 
 // What writing a field answers: the bit behind it; or a refusal.
-#[derive(Drop)]
+#[derive(Clone, Copy)]
 pub enum Written {
     End(usize),
     Size,
@@ -132,7 +132,7 @@ pub fn write_signmag(bytes: &mut [u8], start: usize, width: usize, value: i64) -
 }
 
 // What is decided before the number and the place are looked at.
-#[derive(Drop)]
+#[derive(Clone, Copy)]
 enum Limits {
     Kept,
     Size,

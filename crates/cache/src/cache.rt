@@ -15,7 +15,7 @@ pub struct Key {
     pub signal: u32,
 }
 
-#[derive(Drop)]
+#[derive(Clone, Copy)]
 pub enum Stored {
     Done,
     Size,
@@ -23,7 +23,7 @@ pub enum Stored {
     Full,
 }
 
-#[derive(Drop)]
+#[derive(Clone, Copy)]
 pub enum Removed {
     Done,
     Size,
@@ -31,7 +31,7 @@ pub enum Removed {
     Absent,
 }
 
-#[derive(Drop)]
+#[derive(Clone, Copy)]
 pub enum Found {
     // IOD, and the bias in 32 bits of two's complement.
     Value(u32, u32),

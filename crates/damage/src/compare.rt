@@ -5,7 +5,7 @@ ghost use Rattle.damage.specs.Compare.{past_last, first_from, compare, differing
 ghost use Rattle.damage.specs.Answers.{told_compared};
 
 // What comparing answers: the run from the first to the last differing byte, of no bytes if there is none; or Size.
-#[derive(Drop)]
+#[derive(Clone, Copy)]
 pub enum Compared {
     Differs { start: usize, count: usize },
     Size,

@@ -24,7 +24,7 @@ pub struct Entry {
     pub bias: u16,
 }
 
-#[derive(Drop)]
+#[derive(Clone, Copy)]
 pub enum Answer {
     Done,
     // IOD, and the bias in 32 bits of two's complement.

@@ -7,7 +7,7 @@ ghost use Rattle.messages.specs.Answers.{told_read};
 use bits::field::{Signed, Unsigned};
 
 // What reading a block answers: how many records there are, and the bit behind the block; or a refusal.
-#[derive(Drop)]
+#[derive(Clone, Copy)]
 pub enum BlockRead {
     Records { count: usize, end: usize },
     Size,
@@ -18,7 +18,7 @@ pub enum BlockRead {
 }
 
 // What writing a block answers: the bit behind it; or a refusal.
-#[derive(Drop)]
+#[derive(Clone, Copy)]
 pub enum BlockWritten {
     End(usize),
     Size,

@@ -3,11 +3,11 @@ ghost use Rattle.std.specs.Prelude.{◌≡◌};
 ghost use Rattle.messages.specs.Metres.{metres1059, metres1230, hundredths1059, hundredths1230};
 
 // A bias of message 1059, in 0.01 m.
-#[derive(Drop)]
+#[derive(Clone, Copy)]
 pub struct Bias1059(pub i16);
 
 // A bias of message 1230, in 0.02 m.
-#[derive(Drop)]
+#[derive(Clone, Copy)]
 pub struct Bias1230(pub i16);
 
 impl Bias1059 {

@@ -11,7 +11,7 @@ use bits::field;
 use bits::field::Unsigned;
 
 // The bit where the next field goes, and the bits before it, of which the last `at % 32` are not stored yet.
-#[derive(Drop)]
+#[derive(Clone, Copy)]
 pub(crate) struct Pen {
     pub at: usize,
     pub bits: u64,

@@ -8,21 +8,21 @@ ghost use Rattle.messages.specs.Answers.{found_signal, found_number, told_order}
 ghost use Rattle.messages.specs.StepsColumns.{Even, entries, has, line_of, found_line, signal_at};
 
 // The signal that a number stands for: its band and its letter, an ASCII byte; or none.
-#[derive(Drop)]
+#[derive(Clone, Copy)]
 pub enum SignalFound {
     At(u8, u8),
     None,
 }
 
 // The number of a signal, or none.
-#[derive(Drop)]
+#[derive(Clone, Copy)]
 pub enum NumberFound {
     At(u8),
     None,
 }
 
 // How two signals stand to each other.
-#[derive(Drop)]
+#[derive(Clone, Copy)]
 pub enum Order {
     Less,
     Equal,
@@ -183,7 +183,7 @@ pub(crate) enum Wanted {
 }
 
 // A line of a table: number, band and letter; or none.
-#[derive(Drop)]
+#[derive(Clone, Copy)]
 pub(crate) enum Line {
     At(u8, u8, u8),
     None,

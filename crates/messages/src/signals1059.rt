@@ -26,7 +26,7 @@ const LETTERS_2: [u8; 16] = *b"CPWYMCDSLXPWYMIQ";
 const MASK_2: u32 = 0b1111_1111_1111_1111;
 
 // What a number stands for in an edition: the band and the letter of a signal, or none; or there is no such edition.
-#[derive(Drop)]
+#[derive(Clone, Copy)]
 pub enum Signal1059 {
     At(u8, u8),
     None,
@@ -34,7 +34,7 @@ pub enum Signal1059 {
 }
 
 // Which number stands for a signal in an edition; or there is no such edition.
-#[derive(Drop)]
+#[derive(Clone, Copy)]
 pub enum Number1059 {
     At(u8),
     None,

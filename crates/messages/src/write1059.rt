@@ -70,7 +70,7 @@ fn write_known(
 }
 
 // What is wrong with a record. Carries its index.
-#[derive(Drop)]
+#[derive(Clone, Copy)]
 enum Fault {
     None,
     Satellite(usize),

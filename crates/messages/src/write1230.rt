@@ -121,7 +121,7 @@ fn put_block(bytes: &mut [u8], start: usize, signals: &[u8], biases: &[i16])
 }
 
 // Bits of a mask, and the biases of their signals as one number, the last one's 16 bits lowest.
-#[derive(Drop)]
+#[derive(Clone, Copy)]
 struct Joined {
     mask: u64,
     word: u64,

@@ -11,7 +11,7 @@ pub struct Header {
 }
 
 // What is observed of one satellite, in raw numbers: DF009 to DF013.
-#[derive(Drop)]
+#[derive(Clone, Copy)]
 pub struct Observation {
     pub satellite: u8,
     pub code: u8,
@@ -21,7 +21,7 @@ pub struct Observation {
 }
 
 // What reading the message answers: its header, how many observations there are, and the bit behind the message; or a refusal.
-#[derive(Drop)]
+#[derive(Clone, Copy)]
 pub enum MessageRead {
     Observations {
         header: Header,
@@ -37,7 +37,7 @@ pub enum MessageRead {
 }
 
 // What writing the message answers: the bit behind it; or a refusal.
-#[derive(Drop)]
+#[derive(Clone, Copy)]
 pub enum MessageWritten {
     End(usize),
     Size,

@@ -3,7 +3,7 @@ ghost use Rattle.std.specs.Prelude.{◌≡◌};
 ghost use Rattle.observations.specs.Measured.{pseudorange_of, phase_of, lock_of};
 
 // Absent, a plain count, or a length in metres.
-#[derive(Drop)]
+#[derive(Clone, Copy)]
 pub enum Measured {
     Absent,
     Count(u32),

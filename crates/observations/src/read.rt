@@ -71,7 +71,7 @@ pub(crate) fn even(a: usize, b: usize, c: usize, d: usize, e: usize) -> bool
 // ---- the first pass: the header, and whether all observations are there
 
 // What stands before the observations, and how many there are; or a refusal.
-#[derive(Drop)]
+#[derive(Clone, Copy)]
 pub(crate) enum Front {
     Header(Header, usize),
     Short(Lack),
@@ -153,14 +153,14 @@ fn header_at(bytes: &[u8], start: usize) -> Front
 }
 
 // What Short tells of a field: the bit where it starts, and how many of its bits are missing.
-#[derive(Drop)]
+#[derive(Clone, Copy)]
 pub(crate) struct Lack {
     pub place: usize,
     pub missing: usize,
 }
 
 // A number of at most 32 bits and the bit behind it, or Short.
-#[derive(Drop)]
+#[derive(Clone, Copy)]
 pub(crate) enum Number {
     At(u32, usize),
     Short(Lack),
@@ -201,7 +201,7 @@ fn lack_of(number: Number) -> Lack
 // ---- one observation
 
 // An observation and the bit behind it, or Short.
-#[derive(Drop)]
+#[derive(Clone, Copy)]
 pub(crate) enum Row {
     At(Observation, usize),
     Short(Lack),
@@ -248,7 +248,7 @@ fn row_at(bytes: &[u8], start: usize) -> Row
 }
 
 // A phase range and the bit behind it, or Short.
-#[derive(Drop)]
+#[derive(Clone, Copy)]
 pub(crate) enum Phase {
     At(i32, usize),
     Short(Lack),

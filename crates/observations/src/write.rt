@@ -101,7 +101,7 @@ fn row_of(
 // ---- refusals
 
 // The first fault of all observations.
-#[derive(Drop)]
+#[derive(Clone, Copy)]
 enum First {
     None,
     Satellite(usize),
@@ -132,7 +132,7 @@ fn first_fault(
 }
 
 // What is wrong with one observation.
-#[derive(Drop)]
+#[derive(Clone, Copy)]
 enum Fault {
     None,
     Satellite,

@@ -35,7 +35,7 @@ pub struct Account {
 }
 
 // What the scanner makes of what is there.
-#[derive(Drop)]
+#[derive(Clone, Copy)]
 pub enum Taken {
     // A frame, at the front of the area for it, with its place in the recording and its kind.
     Frame {
@@ -51,7 +51,7 @@ pub enum Taken {
 }
 
 // What a step comes to.
-#[derive(Drop)]
+#[derive(Clone, Copy)]
 pub enum Step {
     // A frame, at the front of the area for it, with its place in the recording.
     Frame {

@@ -7,7 +7,7 @@ use crate::{Source, asked};
 use printing::{fail, say};
 
 // What reading it came to.
-#[derive(Drop)]
+#[derive(Clone, Copy)]
 pub enum Loaded {
     // So many bytes, at the front of the area.
     Bytes(usize),

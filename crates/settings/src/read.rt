@@ -11,7 +11,7 @@ use crate::layout;
 use bits::crc;
 
 // What reading answers: how many numbers were read and the block's edition; or a refusal.
-#[derive(Drop)]
+#[derive(Clone, Copy)]
 pub enum BlockRead {
     Settings { count: usize, edition: u32 },
     Size,

@@ -11,7 +11,7 @@ use crate::layout;
 use bits::crc;
 
 // What writing answers: a block of 512 bytes; or a refusal.
-#[derive(Drop)]
+#[derive(Clone, Copy)]
 pub enum Written {
     Block,
     Kind,

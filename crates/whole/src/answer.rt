@@ -12,7 +12,7 @@ pub struct Header1059 {
 }
 
 // What reading message 1059 answers: its header, how many records there are, and the bit behind the message; or a refusal.
-#[derive(Drop)]
+#[derive(Clone, Copy)]
 pub enum Message1059 {
     Records {
         header: Header1059,
@@ -36,7 +36,7 @@ pub struct Header1230 {
 }
 
 // What reading message 1230 answers: its header, how many records there are, and the bit behind the message; or a refusal.
-#[derive(Drop)]
+#[derive(Clone, Copy)]
 pub enum Message1230 {
     Records {
         header: Header1230,

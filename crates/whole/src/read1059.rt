@@ -55,7 +55,7 @@ fn with_header(header: Header1059, answer: BlockRead) -> Message1059
 }
 
 // What stands before the block; or a refusal.
-#[derive(Drop)]
+#[derive(Clone, Copy)]
 pub(crate) enum Front {
     Header(Header1059),
     Short(Lack),

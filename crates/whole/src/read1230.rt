@@ -44,7 +44,7 @@ fn with_header(header: Header1230, answer: BlockRead) -> Message1230
 }
 
 // What stands before the block; or a refusal.
-#[derive(Drop)]
+#[derive(Clone, Copy)]
 pub(crate) enum Front {
     Header(Header1230),
     Short(Lack),

@@ -7,14 +7,14 @@ use bits::field;
 use bits::field::Unsigned;
 
 // What Short tells of a field: the bit where it starts, and how many of its bits are missing.
-#[derive(Drop)]
+#[derive(Clone, Copy)]
 pub(crate) struct Lack {
     pub place: usize,
     pub missing: usize,
 }
 
 // A number of at most 32 bits and the bit behind it, or Short.
-#[derive(Drop)]
+#[derive(Clone, Copy)]
 pub(crate) enum Number {
     At(u32, usize),
     Short(Lack),
