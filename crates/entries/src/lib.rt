@@ -5,7 +5,7 @@
 ghost use Rattle.std.specs.Prelude.{◌≡◌, map, set};
 ghost use Rattle.bits.specs.Outcome.{outcome};
 ghost use Rattle.cache.specs.Cache.{blank, entry_of, Store, Remove, Lookup, step};
-ghost use Rattle.cache.specs.Answers.{key_of as cache·keyOf};
+ghost use Rattle.cache.specs.Answers.{key_of as cache_key_of};
 ghost use Rattle.entries.specs.Entries.{numbers_of, key_of, value_of, told_answer};
 ghost use Rattle.entries.specs.Walk.{long_at, held_in, free_in, look_of, place_of, walk_from, start_of, ask_to_store, ask_for, held_answer, told_of};
 
@@ -247,7 +247,7 @@ fn seeking(e: Entry) -> Seen
 }
 
 fn key_of(e: Entry) -> Key
-    ensures { cache·keyOf result ≡ key_of e }
+    ensures { cache_key_of result ≡ key_of e }
 {
     Key {
         provider: e.provider as u32,

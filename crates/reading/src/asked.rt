@@ -1,5 +1,5 @@
 // What the words of a program ask for that has no option of its own.
-ghost use Rattle.reading.specs.Asked.{Comes, IsWord, nothing as Asked·nothing, noted as Asked·noted, named as Asked·named, first as Asked·first};
+ghost use Rattle.reading.specs.Asked.{Comes, IsWord, nothing as asked_nothing, noted as asked_noted, named as asked_named, first as asked_first};
 ghost use Rattle.std.specs.Prelude.{◌≡◌};
 
 use crate::arguments;
@@ -32,7 +32,7 @@ pub fn all(rt: &HostRuntime) -> Asked
 
 // What no word at all asks for.
 fn nothing() -> Asked
-    ensures { result ≡ Asked·nothing }
+    ensures { result ≡ asked_nothing }
 {
     Asked {
         help: false,
@@ -47,7 +47,7 @@ fn nothing() -> Asked
 
 // What is asked for once word i is known too.
 fn noted(asked: Asked, kind: Kind, i: usize) -> Asked
-    ensures { result ≡ Asked·noted asked kind i }
+    ensures { result ≡ asked_noted asked kind i }
 {
     let mut next = asked;
     match kind {
@@ -75,7 +75,7 @@ fn noted(asked: Asked, kind: Kind, i: usize) -> Asked
 
 // Word i is no option.
 fn named(asked: Asked, i: usize) -> Asked
-    ensures { result ≡ Asked·named asked i }
+    ensures { result ≡ asked_named asked i }
 {
     let mut next = asked;
     if asked.first == 0 {
@@ -92,7 +92,7 @@ fn named(asked: Asked, i: usize) -> Asked
 
 // The first of two places, of which 0 is none.
 fn first(a: usize, b: usize) -> usize
-    ensures { result ≡ Asked·first a b }
+    ensures { result ≡ asked_first a b }
 {
     if a == 0 { b } else { a }
 }

@@ -1,7 +1,6 @@
 -- The unsigned reading, understood. Assumes nothing.
+use borrow.Author.Rules.{rules}
 use mathlib.Core.Path.{sym, ap, ◌∙◌}
-use mir.Syntax.{w64}
-use mir.ValLaws.{to_z-of_z}
 use Rattle.bits.specs.Signed.{signmag_of}
 use Rattle.bits.specs.Answers.{told_unsigned}
 use Rattle.bits.proofs.ReadLaws.{value_as, refused_as, value_tells}
@@ -15,7 +14,7 @@ pub returns-in-Value : goal.returns-in-Value
 returns-in-Value c =
     value_as (signmag_of _) _ _ _
     (ap told_unsigned (sym c.in-Value.is) ∙ c.read_unsigned.ensures)
-    (to_z-of_z w64 c.signmag.result (record { sfits = c.signmag.type_inv }) ∙ c.signmag.ensures)
+    (search rules)
 
 pub returns-in-Size : goal.returns-in-Size
 returns-in-Size c = refused_as (signmag_of _) _ _ _ (ap told_unsigned (sym c.in-Size.is) ∙ c.read_unsigned.ensures)
