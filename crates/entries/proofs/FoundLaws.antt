@@ -69,7 +69,7 @@ module _ (ask : ℕ) (e w : Entry) (l : List Entry) where
       kept = apart_walked l 0 (start_of ask e) (omega arith)
 
       not_long : r.is_long ≡ false
-      not_long = ap (λ (x : Apart). x.is_long_lem) kept
+      not_long = ap (λ (x : Apart). x.is_long) kept
 
       asks : r.ask ≡ ask
       asks = ap (λ (x : Apart). x.ask) kept

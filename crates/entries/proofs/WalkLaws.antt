@@ -31,10 +31,10 @@ at_end i s l h = rw (drop_of_length-le l h)
 pub record Apart : Type 0 where
   pub ask : ℕ
   pub wanted : Entry
-  pub is_long_lem : Bool
+  pub is_long : Bool
 
 abbrev pub apart : Seen → Apart
-apart s = record { ask = s.ask; wanted = s.wanted; is_long_lem = s.is_long }
+apart s = record { ask = s.ask; wanted = s.wanted; is_long = s.is_long }
 
 pub record Keyed : Type 0 where
   pub is : Bool
@@ -134,7 +134,7 @@ long_on s e i p = go (ltb 511 i) refl
   where
     go : (b : Bool) → ltb 511 i ≡ b → (cond b (long_at s) (free_in (held_in s e i) e i)).is_long ≡ true
     go true q = refl
-    go false q = ap (λ (a : Apart). a.is_long_lem) (sym (ap apart (within s e i (ltb-false 511 i q))) ∙ look_apart s e i (ltb-false 511 i q)) ∙ p
+    go false q = ap (λ (a : Apart). a.is_long) (sym (ap apart (within s e i (ltb-false 511 i q))) ∙ look_apart s e i (ltb-false 511 i q)) ∙ p
 
 long_kept : (l : List Entry) (i : ℕ) (s : Seen) → s.is_long ≡ true → (walk_from i s l).is_long ≡ true
 unfolding walk_from

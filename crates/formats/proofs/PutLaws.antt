@@ -1,7 +1,6 @@
 -- Fields that are put where they are known to fit: one field, as the code takes the answer, and a run part by part. Assumes nothing.
 use mathlib.Core.Path.{◌≡◌, refl, sym, ap, ap₂, subst, ◌∙◌}
 use mathlib.Core.List.{List, [], ◌∷◌, ◌++◌}
-use mathlib.Core.Logic.{⊎_elim}
 use mathlib.Core.Bool.{Bool, true}
 use Prim.Native.Nat.{ℕ, ◌+◌, ◌-◌, ◌≤◌}
 use native.Mathlib.Nat.{add-zero}
@@ -10,8 +9,6 @@ use native.Mathlib.Omega.{arith}
 use borrow.Author.Tests.{le-leb, lt-leb}
 use lib.Dec.{leb}
 use lib.ListN.{length}
-use types.Run.{OneOf}
-use denote.Enum.Declared.{tag_of}
 use Rattle.bits.specs.Outcome.{outcome}
 use Rattle.bits.specs.Field.{write_by}
 use Rattle.bits.specs.Fields.{Field, bits, total, put_all}
@@ -19,7 +16,6 @@ use Rattle.bits.specs.Answers.{told_written}
 use Rattle.bits.specs.declared.field.Written.{Written}
 use Rattle.bits.specs.declared.field.Written.TheVariants.{End}
 use Rattle.bits.proofs.FieldsLaws.{total_none, total_one, total_append, put_none, put_one, put_append, length_put_all}
-use Rattle.bits.specs.contracts.field.Written.{the_type}
 use Rattle.bits.proofs.WriteLaws.{writes}
 use Rattle.bits.proofs.ToldLaws.{only_wrote}
 use Rattle.formats.specs.Put.{RoomFor, IsPut}
@@ -88,10 +84,6 @@ module _ {s₀ : List ℕ} {p₀ : ℕ} {fs₀ : List Field} {s : List ℕ} {p :
 
 -- ---- one field, as the code takes the answer
 
--- the arm of a `let .. else` that an accepted write never takes
-not_end : (q : ℕ) → OneOf (1 ∷ 2 ∷ 3 ∷ 4 ∷ []) (tag_of the_type (End q)) → ⊥
-not_end q o = ⊎_elim (λ p. omega arith) (λ x. ⊎_elim (λ p. omega arith) (λ y. ⊎_elim (λ p. omega arith) (λ p. omega arith) y) x) o
-
 module _ (fitting : Bool) (v : ℕ) (s : List ℕ) (p w : ℕ) (f : RoomFor s p (bits w v ∷ [])) (low : 1 ≤ w) (high : w ≤ 64) (g : fitting ≡ true)
     (r : Written) (t : List ℕ) (e : outcome (told_written r) t ≡ write_by fitting v s p w) where
   ended : (r ≡ End (p + w)) × (IsPut s p (bits w v ∷ []) t (p + w))
@@ -105,5 +97,6 @@ module _ (fitting : Bool) (v : ℕ) (s : List ℕ) (p w : ℕ) (f : RoomFor s p 
       let d : p + w ≡ q = cc in
       subst (λ (x : ℕ). IsPut s p (bits w v ∷ []) t x) d ended.1
 
-  pub is_put_else : (q : ℕ) → OneOf (1 ∷ 2 ∷ 3 ∷ 4 ∷ []) (tag_of the_type r) → IsPut s p (bits w v ∷ []) t q
-  is_put_else q o = absurd (not_end (p + w) (subst (λ (x : Written). OneOf (1 ∷ 2 ∷ 3 ∷ 4 ∷ []) (tag_of the_type x)) ended.0 o))
+  -- the arm of a `let .. else` that an accepted write never takes
+  pub is_put_else : (q : ℕ) → ((n : ℕ) → r ≡ End n → ⊥) → IsPut s p (bits w v ∷ []) t q
+  is_put_else q o = absurd (o (p + w) ended.0)

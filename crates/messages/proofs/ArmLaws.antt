@@ -1,13 +1,10 @@
 -- What the two arms of a `let .. else` tell of a field, and the other arm of a pass and of a write. Assumes nothing.
 use mathlib.Core.Path.{◌≡◌, refl, sym, ap, ◌∙◌}
-use mathlib.Core.Logic.{inl, inr}
 use mathlib.Core.List.{List, [], ◌∷◌}
 use Prim.Native.Nat.{ℕ, ◌+◌, ◌*◌, ◌^◌, ◌≤◌, ◌<◌}
 use native.Mathlib.Omega.{arith}
 use lib.IntN.{ℤ}
 use lib.ListN.{length}
-use types.Run.{OneOf}
-use denote.Enum.Declared.{tag_of}
 use Rattle.bits.specs.Told.{Told, Accepted, Refused, size, and_then}
 use Rattle.bits.specs.Field.{Reading, reading, cut_at, read_unsigned, read_twos, read_by}
 use Rattle.bits.specs.Signed.{twos_of}
@@ -16,9 +13,6 @@ use Rattle.bits.specs.declared.field.Unsigned.{Unsigned}
 use Rattle.bits.specs.declared.field.Unsigned.TheVariants as U
 use Rattle.bits.specs.declared.field.Signed.{Signed}
 use Rattle.bits.specs.declared.field.Signed.TheVariants as S
-use Rattle.bits.specs.declared.field.Written.{Written}
-use Rattle.bits.specs.declared.field.Written.TheVariants as W
-use Rattle.bits.specs.contracts.field.Written.{the_type as written-type}
 use Rattle.bits.proofs.ReadLaws.{reads_value, reads_short, refused_short, refused_behind, read_tells, value_tells}
 use Rattle.messages.specs.Records.{Counted}
 use Rattle.messages.specs.Answers.{told_read}
@@ -115,13 +109,3 @@ signed_not_short (S.Value v q) o carried e = let z : ◌≡◌ {A = ℕ} 0 1 = c
 signed_not_short S.Size o carried e = let z : ◌≡◌ {A = ℕ} 9 1 = cc in omega arith
 signed_not_short S.Width o carried e = let z : ◌≡◌ {A = ℕ} 2 1 = cc in omega arith
 signed_not_short (S.Short p m) o carried e = o p m refl
-
--- ---- an answer to a write
-
--- of five variants it is none but the first
-pub other_written : (r : Written) → ((q : ℕ) → r ≡ W.End q → ⊥) → OneOf (1 ∷ 2 ∷ 3 ∷ 4 ∷ []) (tag_of written-type r)
-other_written (W.End q) o = absurd (o q refl)
-other_written W.Size o = inl refl
-other_written W.Width o = inr (inl refl)
-other_written W.Range o = inr (inr (inl refl))
-other_written (W.Room w) o = inr (inr (inr refl))

@@ -1,7 +1,6 @@
 pub mod MeasuredLaws
 pub mod TakeLaws
 pub mod PhaseLaws
-pub mod PutArms
 pub mod RowLaws
 pub mod FrontLaws
 pub mod MessageLaws

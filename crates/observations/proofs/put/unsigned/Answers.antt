@@ -1,13 +1,12 @@
 -- `observations::put::unsigned` meets its contract. The field fits, so the write is accepted. Assumes nothing.
 use borrow.Author.Tests.{lt-ltb}
 use Rattle.formats.proofs.PutLaws.{is_put_one, is_put_else}
-use Rattle.observations.proofs.PutArms.{other_four}
 use Rattle.observations.proofs.put.unsigned.Goals as goal
 
 pub returns-in_default : goal.returns-in_default
 returns-in_default c =
     let w = c.write_unsigned in
-    is_put_else _ _ _ _ _ c.requires.0 c.requires.1 c.requires.2 (lt-ltb _ _ c.requires.3) w.result _ w.ensures _ (other_four w.result c.in_default.not-End)
+    is_put_else _ _ _ _ _ c.requires.0 c.requires.1 c.requires.2 (lt-ltb _ _ c.requires.3) w.result _ w.ensures _ c.in_default.not-End
 
 pub returns : goal.returns
 returns c =
