@@ -20,6 +20,7 @@ pub mod RemLaws
 pub mod WordLaws
 pub mod FoldLaws
 pub mod StepLaws
+pub mod RefusalLaws
 pub mod ToldLaws
 pub mod OutcomeLaws
 pub mod OnlyLaws

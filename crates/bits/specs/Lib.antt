@@ -1,4 +1,5 @@
 pub mod Told
+pub mod Refusals
 pub mod Outcome
 pub mod Onto
 pub mod Part

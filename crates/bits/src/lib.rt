@@ -8,4 +8,5 @@ pub mod crc;
 pub mod field;
 mod fold;
 mod raw;
+pub mod refusal;
 mod signed;
