@@ -11,10 +11,11 @@ use borrow.Author.Tests.{lt-ltb, le-ltb}
 use Rattle.bits.specs.Told.{Told, Accepted, Refused, size, width}
 use Rattle.bits.specs.Field.{field, missing, cut_at, Reading, reading, read_by, read_unsigned}
 use Rattle.bits.specs.Steps.{limits_of}
-use Rattle.bits.specs.declared.field.Limits.{Limits}
-use Rattle.bits.specs.declared.field.Limits.TheVariants.{Kept, Size, Width}
+use Rattle.std.specs.Prelude.{Result, Ok, Err}
+use Rattle.bits.specs.Refusals.{number_of, carried_by}
+use Rattle.bits.specs.declared.refusal.Refusal.{Refusal}
 use Rattle.bits.proofs.FieldLaws.{field_lt}
-use Rattle.bits.proofs.LimitLaws.{by_limits, by_limits_lem, kept, are_kept}
+use Rattle.bits.proofs.LimitLaws.{by_limits, by_limits_lem, kept, are_kept, not_short}
 
 -- ---- how many bits are missing
 
@@ -39,21 +40,18 @@ module _ {A : Type 0} (meaning : ℕ → A) (s : List ℕ) (p w : ℕ) where
   rest : Told (Reading A)
   rest = cond (ltb (length s * 8) (p + w)) (cut_at (length s) p w) (Accepted (reading (meaning (field s p w)) (p + w)))
 
-  read_on : read_by meaning s p w ≡ by_limits (limits_of (length s) w) size width rest
+  read_on : read_by meaning s p w ≡ by_limits (limits_of (length s) w) rest
   unfolding read_by rest
-  read_on = by_limits_lem (length s) w size width (cond (ltb (length s * 8) (p + w)) (cut_at (length s) p w) (Accepted (reading (meaning (field s p w)) (p + w))))
+  read_on = by_limits_lem (length s) w (cond (ltb (length s * 8) (p + w)) (cut_at (length s) p w) (Accepted (reading (meaning (field s p w)) (p + w))))
 
-  pub read_size : limits_of (length s) w ≡ Size → size ≡ read_by meaning s p w
-  read_size e = rw (read_on, e)
+  pub read_refused : {r : Refusal} → limits_of (length s) w ≡ Err r → Refused (number_of r) (carried_by r) ≡ read_by meaning s p w
+  read_refused e = rw (read_on, e)
 
-  pub read_width : limits_of (length s) w ≡ Width → width ≡ read_by meaning s p w
-  read_width e = rw (read_on, e)
-
-  pub read_short : limits_of (length s) w ≡ Kept → length s * 8 < p + w → cut_at (length s) p w ≡ read_by meaning s p w
+  pub read_short : limits_of (length s) w ≡ Ok (tt {0}) → length s * 8 < p + w → cut_at (length s) p w ≡ read_by meaning s p w
   unfolding rest
   read_short e h = rw (read_on, e, lt-ltb _ _ h)
 
-  pub read_value : limits_of (length s) w ≡ Kept → p + w ≤ length s * 8 → Accepted (reading (meaning (field s p w)) (p + w)) ≡ read_by meaning s p w
+  pub read_value : limits_of (length s) w ≡ Ok (tt {0}) → p + w ≤ length s * 8 → Accepted (reading (meaning (field s p w)) (p + w)) ≡ read_by meaning s p w
   unfolding rest
   read_value e h = rw (read_on, e, le-ltb _ _ h)
 
@@ -101,10 +99,9 @@ module _ {A : Type 0} (meaning : ℕ → A) (s : List ℕ) (p w : ℕ) where
   unfolding rest
   read_tells {r} e = go (limits_of (length s) w) refl
     where
-      go : (g : Limits) → limits_of (length s) w ≡ g → Read r
-      go Size q = let d = read_size q in let z : ◌≡◌ {A = ℕ} 0 1 = cc in absurd (omega arith)
-      go Width q = let d = read_width q in let z : ◌≡◌ {A = ℕ} 0 1 = cc in absurd (omega arith)
-      go Kept q = by (dec_lt (length s * 8) (p + w))
+      go : (g : Result (Unit {0}) Refusal) → limits_of (length s) w ≡ g → Read r
+      go (Err x) q = let d = read_refused q ∙ e in let z : ◌≡◌ {A = ℕ} 0 1 = cc in absurd (omega arith)
+      go (Ok u) q = by (dec_lt (length s * 8) (p + w))
         where
           by : Dec (length s * 8 < p + w) → Read r
           by (yes h) = let d = read_short q h in let z : ◌≡◌ {A = ℕ} 0 1 = cc in absurd (omega arith)
@@ -118,10 +115,9 @@ module _ {A : Type 0} (meaning : ℕ → A) (s : List ℕ) (p w : ℕ) where
   unfolding rest
   short_tells {place} {lack} e = go (limits_of (length s) w) refl
     where
-      go : (g : Limits) → limits_of (length s) w ≡ g → (place ≡ p) × (lack ≡ missing (length s * 8) p w) × (1 ≤ lack) × (lack ≤ w)
-      go Size q = let d = read_size q in let z : ◌≡◌ {A = ℕ} 9 1 = cc in absurd (omega arith)
-      go Width q = let d = read_width q in let z : ◌≡◌ {A = ℕ} 2 1 = cc in absurd (omega arith)
-      go Kept q = by (dec_lt (length s * 8) (p + w))
+      go : (g : Result (Unit {0}) Refusal) → limits_of (length s) w ≡ g → (place ≡ p) × (lack ≡ missing (length s * 8) p w) × (1 ≤ lack) × (lack ≤ w)
+      go (Err x) q = let d = read_refused q ∙ e in let z : number_of x ≡ 1 = cc in absurd (omega (arith, not_short _ _ q))
+      go (Ok u) q = by (dec_lt (length s * 8) (p + w))
         where
           by : Dec (length s * 8 < p + w) → (place ≡ p) × (lack ≡ missing (length s * 8) p w) × (1 ≤ lack) × (lack ≤ w)
           by (yes h) =
@@ -142,13 +138,12 @@ pub read_as : {A : Type 0} (meaning : ℕ → A) (s : List ℕ) (p w : ℕ) → 
 unfolding rest
 read_as meaning s p w = rw (read_on meaning s p w, read_on (λ v. v) s p w) (go (limits_of (length s) w) (ltb (length s * 8) (p + w)))
   where
-    go : (g : Limits) (b : Bool)
-        → by_limits g size width (cond b (cut_at (length s) p w) (Accepted (reading (meaning (field s p w)) (p + w))))
-        ≡ understood meaning (by_limits g size width (cond b (cut_at (length s) p w) (Accepted (reading (field s p w) (p + w)))))
-    go Size b = refl
-    go Width b = refl
-    go Kept true = refl
-    go Kept false = refl
+    go : (g : Result (Unit {0}) Refusal) (b : Bool)
+        → by_limits g (cond b (cut_at (length s) p w) (Accepted (reading (meaning (field s p w)) (p + w))))
+        ≡ understood meaning (by_limits g (cond b (cut_at (length s) p w) (Accepted (reading (field s p w) (p + w)))))
+    go (Err r) b = refl
+    go (Ok u) true = refl
+    go (Ok u) false = refl
 
 module _ {A : Type 0} (meaning : ℕ → A) (s : List ℕ) (p w : ℕ) where
   -- from the unsigned number that the code has in hand

@@ -6,8 +6,9 @@ use Prim.Native.Nat.{ℕ}
 use native.Mathlib.Omega.{arith}
 use lib.Dec.{eqb}
 use lib.ListN.{get_or}
-use Rattle.std.specs.Prelude.{Result, Ok, Err}
+use Rattle.std.specs.Prelude.{Result, Ok, Err, IsErrAnd}
 use Rattle.bits.specs.Told.{Told, Accepted, Refused, OneToOne, size, width, short, range, signal, satellite, too_many, duplicate, room, no_preamble, state, incomplete, kind, bad_check, full, absent}
+use Rattle.bits.specs.Outcome.{outcome}
 use Rattle.bits.specs.Refusals.{told, number_of, carried_by}
 use Rattle.bits.specs.declared.refusal.Refusal.{Refusal}
 use Rattle.bits.specs.declared.refusal.Refusal.TheVariants as R
@@ -125,3 +126,13 @@ told_one_to_one {T} {A} value one = record { same = λ {x} {y} e. go x y e }
     go (Ok v) (Err r) e = let z : ◌≡◌ {A = ℕ} 0 1 = ap is_refused e in absurd (omega arith)
     go (Err r) (Ok v) e = let z : ◌≡◌ {A = ℕ} 1 0 = ap is_refused e in absurd (omega arith)
     go (Err q) (Err r) e = ap Err (sym (refusal_again q) ∙ ap (refusal_in q) e ∙ refusal_again r)
+
+-- What a call tells that passes a refusal on by `?`: the refusal, as it came.
+pub passed_on : {T A : Type 0} (value : T → A) (r : Result T Refusal) (e : Refusal) → IsErrAnd r (λ y. y ≡ e) → told value r ≡ Refused (number_of e) (carried_by e)
+passed_on value (Ok v) e p = absurd p
+passed_on value (Err y) e p = ap (λ z. Refused (number_of z) (carried_by z)) p
+
+-- and with the lent areas, as they are
+pub passed_on_with : {T A S : Type 0} (value : T → A) (areas : S) (r : Result T Refusal) (e : Refusal) → IsErrAnd r (λ y. y ≡ e)
+    → outcome (told value r) areas ≡ outcome (Refused (number_of e) (carried_by e)) areas
+passed_on_with value areas r e p = ap (λ t. outcome t areas) (passed_on value r e p)

@@ -9,13 +9,14 @@ use lib.Dec.{ltb}
 use lib.IntN.{ℤ}
 use lib.ListN.{length}
 use borrow.Author.Tests.{lt-ltb, le-ltb, ltb-true}
-use Rattle.bits.specs.Told.{Told, Accepted, Refused, size, width, range, room}
+use Rattle.bits.specs.Told.{Told, Accepted, Refused, range, room}
 use Rattle.bits.specs.Outcome.{Outcome, outcome, refusing}
 use Rattle.bits.specs.Signed.{twos_of, signmag_of, fits_unsigned, fits_twos, fits_signmag, twos_bits, signmag_bits}
 use Rattle.bits.specs.Field.{put_field, reading, read_by, read_unsigned, read_twos, read_signmag, write_by}
 use Rattle.bits.specs.Steps.{limits_of, put_where_room}
-use Rattle.bits.specs.declared.field.Limits.{Limits}
-use Rattle.bits.specs.declared.field.Limits.TheVariants.{Kept, Size, Width}
+use Rattle.std.specs.Prelude.{Result, Ok, Err}
+use Rattle.bits.specs.Refusals.{number_of, carried_by}
+use Rattle.bits.specs.declared.refusal.Refusal.{Refusal}
 use Rattle.bits.proofs.LimitLaws.{by_limits, by_limits_lem, kept, are_kept}
 use Rattle.bits.proofs.BitLaws.{length_put, read_back_fits}
 use Rattle.bits.proofs.SignedLaws.{twos_bits_lt, twos_back, signmag_bits_lt, signmag_back}
@@ -41,21 +42,18 @@ module _ (fits : Bool) (v : ℕ) (s : List ℕ) (p w : ℕ) where
   rest : Told ℕ
   rest = cond (not fits) (range 0) (cond (ltb (length s * 8) (p + w)) (room w) (Accepted (p + w)))
 
-  write_on : write_by fits v s p w ≡ refusing s (by_limits (limits_of (length s) w) size width rest) puts
+  write_on : write_by fits v s p w ≡ refusing s (by_limits (limits_of (length s) w) rest) puts
   unfolding write_by rest puts
-  write_on = ap (λ (t : Told ℕ). refusing s t puts) (by_limits_lem (length s) w size width rest)
+  write_on = ap (λ (t : Told ℕ). refusing s t puts) (by_limits_lem (length s) w rest)
 
-  pub write_size : limits_of (length s) w ≡ Size → outcome size s ≡ write_by fits v s p w
-  write_size e = rw (write_on, e)
+  pub write_refused : {r : Refusal} → limits_of (length s) w ≡ Err r → outcome (Refused (number_of r) (carried_by r)) s ≡ write_by fits v s p w
+  write_refused e = rw (write_on, e)
 
-  pub write_width : limits_of (length s) w ≡ Width → outcome width s ≡ write_by fits v s p w
-  write_width e = rw (write_on, e)
-
-  pub write_range : limits_of (length s) w ≡ Kept → fits ≡ false → outcome (range 0) s ≡ write_by fits v s p w
+  pub write_range : limits_of (length s) w ≡ Ok (tt {0}) → fits ≡ false → outcome (range 0) s ≡ write_by fits v s p w
   unfolding rest
   write_range e f = rw (write_on, e, f)
 
-  pub write_where_room : limits_of (length s) w ≡ Kept → fits ≡ true → put_where_room s p w v ≡ write_by fits v s p w
+  pub write_where_room : limits_of (length s) w ≡ Ok (tt {0}) → fits ≡ true → put_where_room s p w v ≡ write_by fits v s p w
   unfolding rest puts put_where_room
   write_where_room e f = rw (write_on, e, f)
 
@@ -83,12 +81,11 @@ module _ (fits : Bool) (v : ℕ) (s : List ℕ) (p w : ℕ) where
   ended : Ended (write_by fits v s p w)
   ended = go (limits_of (length s) w) refl fits refl (dec_lt (length s * 8) (p + w))
     where
-      go : (g : Limits) → limits_of (length s) w ≡ g → (f : Bool) → fits ≡ f → Dec (length s * 8 < p + w) → Ended (write_by fits v s p w)
-      go Size e f q d = subst Ended (write_size e) (refused 9 [])
-      go Width e f q d = subst Ended (write_width e) (refused 2 [])
-      go Kept e false q d = subst Ended (write_range e q) (refused 3 (0 ∷ []))
-      go Kept e true q (yes h) = subst Ended (no_room s p w v h ∙ write_where_room e q) (refused 8 (w ∷ []))
-      go Kept e true q (no h) =
+      go : (g : Result (Unit {0}) Refusal) → limits_of (length s) w ≡ g → (f : Bool) → fits ≡ f → Dec (length s * 8 < p + w) → Ended (write_by fits v s p w)
+      go (Err r) e f q d = subst Ended (write_refused e) (refused (number_of r) (carried_by r))
+      go (Ok u) e false q d = subst Ended (write_range e q) (refused 3 (0 ∷ []))
+      go (Ok u) e true q (yes h) = subst Ended (no_room s p w v h ∙ write_where_room e q) (refused 8 (w ∷ []))
+      go (Ok u) e true q (no h) =
           let f = kept (length s) w e in
           let k : p + w ≤ length s * 8 = omega arith in
           let b = writes f.0 f.1 f.2 q k in
@@ -98,7 +95,7 @@ module _ (fits : Bool) (v : ℕ) (s : List ℕ) (p w : ℕ) where
   -- a refused call changes nothing
   pub write_keeps : Keeps s (write_by fits v s p w)
   unfolding puts
-  write_keeps = subst (Keeps s) (sym write_on) (writing_keeps s (by_limits (limits_of (length s) w) size width rest) (λ q. put_field s p w v))
+  write_keeps = subst (Keeps s) (sym write_on) (writing_keeps s (by_limits (limits_of (length s) w) rest) (λ q. put_field s p w v))
 
   pub write_tells : {q : ℕ} → (write_by fits v s p w).answer ≡ Accepted q → Did q
   write_tells {q} e = go (write_by fits v s p w) ended e

@@ -1,29 +1,22 @@
 -- The unsigned reading, understood. Assumes nothing.
-use mathlib.Core.Path.{sym, ap, ◌∙◌}
+use mathlib.Core.Path.{◌∙◌}
 use mir.Syntax.{w64}
 use mir.ValLaws.{to_z-of_z}
 use Rattle.bits.specs.Signed.{twos_of}
-use Rattle.bits.specs.Answers.{told_unsigned}
+use Rattle.bits.specs.Field.{reading}
+use Rattle.bits.proofs.RefusalLaws.{passed_on}
 use Rattle.bits.proofs.ReadLaws.{value_as, refused_as, value_tells}
 use Rattle.bits.proofs.field.read_twos.Goals as goal
 
+pub returns-in_err-number : goal.returns-in_err-number
+returns-in_err-number c =
+    passed_on (λ r. reading r.0 r.1) _ _ c.from_residual.ensures.1
+    ∙ refused_as (twos_of _) _ _ _ c.in_err-number.ensures
+
 pub twos-requires : goal.twos-requires
-twos-requires c =
-    value_tells _ _ _ (ap told_unsigned (sym c.in-Value.is) ∙ c.read_unsigned.ensures)
+twos-requires c = value_tells _ _ _ c.in_ok-number.ensures
 
-pub returns-in-Value : goal.returns-in-Value
-returns-in-Value c =
-    value_as (twos_of _) _ _ _
-    (ap told_unsigned (sym c.in-Value.is) ∙ c.read_unsigned.ensures)
+pub returns : goal.returns
+returns c =
+    value_as (twos_of _) _ _ _ c.in_ok-number.ensures
     (to_z-of_z w64 c.twos.result (record { sfits = c.twos.type_inv }) ∙ c.twos.ensures)
-
-pub returns-in-Size : goal.returns-in-Size
-returns-in-Size c = refused_as (twos_of _) _ _ _ (ap told_unsigned (sym c.in-Size.is) ∙ c.read_unsigned.ensures)
-
-pub returns-in-Width : goal.returns-in-Width
-returns-in-Width c = refused_as (twos_of _) _ _ _ (ap told_unsigned (sym c.in-Width.is) ∙ c.read_unsigned.ensures)
-
-pub returns-in-Short : goal.returns-in-Short
-returns-in-Short c =
-    refused_as (twos_of _) _ _ _
-    (ap told_unsigned (sym c.in-Short.is) ∙ c.read_unsigned.ensures)

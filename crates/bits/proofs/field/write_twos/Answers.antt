@@ -6,36 +6,36 @@ use mir.ValLaws.{to_z-of_z}
 use Rattle.bits.specs.Signed.{fits_twos, twos_bits}
 use Rattle.bits.specs.Steps.{put_where_room}
 use Rattle.bits.proofs.LimitLaws.{kept}
-use Rattle.bits.proofs.WriteLaws.{write_size, write_width, write_range, write_where_room}
+use Rattle.bits.proofs.RefusalLaws.{passed_on_with}
+use Rattle.bits.proofs.WriteLaws.{write_refused, write_range, write_where_room}
 use Rattle.bits.proofs.field.write_twos.Goals as goal
 
+pub returns-in_err-within_limits : goal.returns-in_err-within_limits
+returns-in_err-within_limits c =
+    passed_on_with (λ q. q) _ _ _ c.from_residual.ensures.1
+    ∙ write_refused _ _ _ _ _ (sym c.in_err-within_limits.ensures)
+
 pub fits_twos-requires : goal.fits_twos-requires
-fits_twos-requires c = omega (arith, kept _ _ (sym c.limits_of.ensures ∙ c.in-Kept.is))
+fits_twos-requires c = omega (arith, kept _ _ (sym c.in_ok-within_limits.ensures))
 
 pub returns-then-not-fits_twos : goal.returns-then-not-fits_twos
 returns-then-not-fits_twos c =
-    write_range _ _ _ _ _ (sym c.limits_of.ensures ∙ c.in-Kept.is)
+    write_range _ _ _ _ _ (sym c.in_ok-within_limits.ensures)
     (ap (fits_twos _) (sym (to_z-of_z w64 c.args.value c.ranges.value)) ∙ sym c.fits_twos.ensures ∙ c.if-not-fits_twos.true)
 
 pub twos_bits-requires : goal.twos_bits-requires
 twos_bits-requires c =
-    let f = kept _ _ (sym c.limits_of.ensures ∙ c.in-Kept.is) in
+    let f = kept _ _ (sym c.in_ok-within_limits.ensures) in
     (f.1, f.2, sym c.fits_twos.ensures ∙ c.if-not-fits_twos.false)
 
 pub place-requires : goal.place-requires
 place-requires c =
-    let f = kept _ _ (sym c.limits_of.ensures ∙ c.in-Kept.is) in
+    let f = kept _ _ (sym c.in_ok-within_limits.ensures) in
     (f.1, f.2, f.0)
 
-pub returns-in-Size : goal.returns-in-Size
-returns-in-Size c = write_size _ _ _ _ _ (sym c.limits_of.ensures ∙ c.in-Size.is)
-
-pub returns-in-Width : goal.returns-in-Width
-returns-in-Width c = write_width _ _ _ _ _ (sym c.limits_of.ensures ∙ c.in-Width.is)
-
-pub returns-else-not-fits_twos : goal.returns-else-not-fits_twos
-returns-else-not-fits_twos c =
+pub returns : goal.returns
+returns c =
     c.place.ensures
     ∙ ap (put_where_room _ _ _) (c.twos_bits.ensures ∙ ap (twos_bits _) (to_z-of_z w64 c.args.value c.ranges.value))
-    ∙ write_where_room _ _ _ _ _ (sym c.limits_of.ensures ∙ c.in-Kept.is)
+    ∙ write_where_room _ _ _ _ _ (sym c.in_ok-within_limits.ensures)
     (ap (fits_twos _) (sym (to_z-of_z w64 c.args.value c.ranges.value)) ∙ sym c.fits_twos.ensures ∙ c.if-not-fits_twos.false)

@@ -2,7 +2,7 @@
 use native.Mathlib.Omega.{arith}
 use borrow.Author.Tests.{lt-ltb, le-ltb, eq-eqb, ne_eqb}
 use Rattle.bits.specs.Steps.{limits_of}
-use Rattle.bits.proofs.field.limits_of.Goals as goal
+use Rattle.bits.proofs.field.within_limits.Goals as goal
 
 pub returns-then-n-gt1023 : goal.returns-then-n-gt1023
 unfolding limits_of
