@@ -1,11 +1,12 @@
 -- Shifts of unsigned and casts, differences and tests of signed numbers, as 64-bit code has them. Assumes nothing.
 use mathlib.Core.Path.{◌≡◌, refl, sym, ap, subst, ◌∙◌}
 use mathlib.Core.Bool.{true, false, true≢false}
-use lib.Dec.{T}
+use lib.Dec.{T, eqb, ltb}
+use native.Mathlib.Decide.{ℕ_discrete}
 use Prim.Native.Nat.{ℕ, zero, suc, ◌+◌, ◌-◌, ◌*◌, ◌/◌, ◌%◌, ◌^◌, ◌≤◌, ◌<◌}
 use native.Mathlib.Nat.{zero-add, zero-mul, one-mul, mod-lt, mod-eq_of_lt, le-div_iff_mul-le, not-suc-le-zero}
 use native.Mathlib.Omega.{arith}
-use borrow.Author.Tests.{lt-ltb, le-ltb, ltb-true}
+use borrow.Author.Tests.{lt-ltb, le-ltb, ltb-true, eq-eqb, ne_eqb}
 use lib.IntN.{ℤ, pos, negsuc, nat_abs, neg_ℤ, ◌-ℤ◌}
 use lib.Pow.{pow_pos, pow_mono, split}
 use lib.Signed.{mag, lt_z, non_neg}
@@ -23,6 +24,14 @@ pub shr_some : (v w : ℕ) → (v / 2 ^ w ≡ 0 → ⊥) → 2 ^ w ≤ v
 shr_some v w n =
     let h : 1 ≤ v / 2 ^ w = omega arith in
     rw one-mul at ((le-div_iff_mul-le (pow_pos w)).0 h)
+
+-- Nothing is left of v shifted down exactly if it fits.
+pub shr_tells : (v w : ℕ) → eqb (v / 2 ^ w) 0 ≡ ltb v (2 ^ w)
+shr_tells v w = go (ℕ_discrete (v / 2 ^ w) 0)
+  where
+    go : Dec (v / 2 ^ w ≡ 0) → eqb (v / 2 ^ w) 0 ≡ ltb v (2 ^ w)
+    go (yes e) = eq-eqb _ _ e ∙ sym (lt-ltb _ _ (shr_zero v w e))
+    go (no n) = ne_eqb _ _ n ∙ sym (le-ltb _ _ (shr_some v w n))
 
 -- the place value of a field's top bit
 pub half_is : (w : ℕ) → 1 ≤ w → w ≤ 64

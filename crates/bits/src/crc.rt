@@ -31,7 +31,7 @@ fn by_words(bytes: &[u8]) -> u32
 pub fn crc24q_from(sum: u32, bytes: &[u8]) -> u32
     ensures { result ≡ crc_from sum bytes.now }
 {
-    if bytes.len() == 0 {
+    if bytes.is_empty() {
         return sum;
     }
     let front = bytes.len() % 8;
@@ -49,10 +49,8 @@ fn by_table(sum: u32, bytes: &[u8]) -> u32
     ensures { result ≡ crc_from (sum % 2 ^ 24) bytes.now }
 {
     let mut c = sum;
-    let mut i: usize = 0;
-    while i < bytes.len() {
-        c = crc_byte(c, bytes[i]);
-        i += 1;
+    for &byte in bytes {
+        c = crc_byte(c, byte);
     }
     c % 0x100_0000
 }

@@ -1,5 +1,5 @@
 // The number of a field that lies within the data, read and written by a look at eight bytes.
-ghost use Rattle.std.specs.Prelude.{◌≡◌, ◌+◌, ◌*◌, ◌%◌, ◌^◌, ◌≤◌, ◌<◌, min, length};
+ghost use Rattle.std.specs.Prelude.{◌≡◌, ◌+◌, ◌*◌, ◌%◌, ◌^◌, ◌≤◌, ◌<◌, length};
 ghost use Rattle.bits.specs.Field.{field, put_field};
 ghost use Rattle.bits.specs.Fields.{Bytes};
 ghost use Rattle.bits.specs.Steps.{splice};
@@ -24,7 +24,7 @@ fn look(bytes: &[u8], start: usize, width: usize) -> u64
     requires { (start + width ≤ length bytes.now * 8) × (1 ≤ width) × (width ≤ 57) × (8 ≤ length bytes.now) × (length bytes.now ≤ 1023) }
     ensures { result ≡ field bytes.now start width }
 {
-    let i = least(start / 8, bytes.len() - 8);
+    let i = (start / 8).min(bytes.len() - 8);
     (eight_at(bytes, i) << (start - i * 8)) >> (64 - width)
 }
 
@@ -38,9 +38,9 @@ fn field_by_bytes(bytes: &[u8], start: usize, width: usize) -> u64
         return 0;
     }
     let last = start + width - 1;
-    let m = least(last % 8 + 1, width);
+    let m = (last % 8 + 1).min(width);
     let at = start + (width - m);
-    let b = wide(bytes[at / 8]);
+    let b = bytes[at / 8] as u64;
     (field_by_bytes(bytes, start, width - m) << m) + ((b << (at % 8)) % 256 >> (8 - m))
 }
 
@@ -69,7 +69,7 @@ fn put_look(bytes: &mut [u8], start: usize, width: usize, number: u64)
     requires { (start + width ≤ length bytes.old * 8) × (1 ≤ width) × (width ≤ 57) × (8 ≤ length bytes.old) × (length bytes.old ≤ 1023) }
     ensures { bytes.new ≡ put_field bytes.old start width number }
 {
-    let i = least(start / 8, bytes.len() - 8);
+    let i = (start / 8).min(bytes.len() - 8);
     let j = 64 - width - (start - i * 8);
     let x = spliced(eight_at(bytes, i), width, j, number);
     put_eight(bytes, i, x);
@@ -100,7 +100,7 @@ fn put_by_bytes(bytes: &mut [u8], start: usize, width: usize, number: u64)
         let at = start + k;
         let i = at / 8;
         let o = at % 8;
-        let m = least(8 - o, width - k);
+        let m = (8 - o).min(width - k);
         let y = spliced(wide(bytes[i]), m, 8 - o - m, number >> (width - k - m));
         bytes[i] = (y % 256) as u8;
         k += m;
@@ -122,24 +122,20 @@ pub(crate) fn eight_at(bytes: &[u8], i: usize) -> u64
     requires { i + 8 ≤ length bytes.now }
     ensures { result ≡ field bytes.now (i * 8) 64 }
 {
-    (wide(bytes[i]) << 56)
-        | (wide(bytes[i + 1]) << 48)
-        | (wide(bytes[i + 2]) << 40)
-        | (wide(bytes[i + 3]) << 32)
-        | (wide(bytes[i + 4]) << 24)
-        | (wide(bytes[i + 5]) << 16)
-        | (wide(bytes[i + 6]) << 8)
-        | wide(bytes[i + 7])
+    ((bytes[i] as u64) << 56)
+        | ((bytes[i + 1] as u64) << 48)
+        | ((bytes[i + 2] as u64) << 40)
+        | ((bytes[i + 3] as u64) << 32)
+        | ((bytes[i + 4] as u64) << 24)
+        | ((bytes[i + 5] as u64) << 16)
+        | ((bytes[i + 6] as u64) << 8)
+        | (bytes[i + 7] as u64)
 }
 
-fn least(a: usize, b: usize) -> usize
-    ensures { result ≡ min a b }
+// A byte as a number. It is a function, and not `as`, since the loop that writes the bytes knows no bound of them: this
+// one's argument has it.
+fn wide(byte: u8) -> u64
+    ensures { (result ≡ byte) × (result < 256) }
 {
-    if a < b { a } else { b }
-}
-
-fn wide(x: u8) -> u64
-    ensures { (result ≡ x) × (result < 256) }
-{
-    x as u64
+    byte as u64
 }

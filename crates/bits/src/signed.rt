@@ -36,7 +36,7 @@ pub(crate) fn fits_unsigned(v: u64, width: usize) -> bool
     if width == 64 {
         return true;
     }
-    if v >> width == 0 { true } else { false }
+    v >> width == 0
 }
 
 // Whether z is within the range of two's complement.

@@ -9,18 +9,14 @@ use Rattle.bits.proofs.CrcLaws.{from_end}
 use Rattle.bits.proofs.TableLaws.{from_mod}
 use Rattle.bits.proofs.StepLaws.{begun, front_first, all_front}
 use borrow.Author.Rules.{rules}
+use borrow.Author.Tests.{eqb-true, eqb-false}
 use Rattle.bits.proofs.crc.crc24q_from.Goals as goal
-
-pub returns-then-bytes-eq0 : goal.returns-then-bytes-eq0
-returns-then-bytes-eq0 c =
-    let a = c.args in
-    sym (from_end a.bytes.now 0 a.sum (omega arith))
 
 pub returns-then-bytes-lt8 : goal.returns-then-bytes-lt8
 returns-then-bytes-lt8 c =
     let a = c.args in
     let s = a.bytes.now in
-    c.by_table-c.ensures ∙ all_front s (a.sum % 2 ^ 24) (omega arith) ∙ from_mod s a.sum (omega arith)
+    c.by_table-c.ensures ∙ all_front s (a.sum % 2 ^ 24) (omega arith) ∙ from_mod s a.sum (omega (arith, eqb-false _ _ (sym c.is_empty.ensures ∙ c.if-is_empty.false)))
 
 pub returns : goal.returns
 returns c =
@@ -34,3 +30,8 @@ returns c =
     ∙ ap (λ (z : ℕ). crc_from z (drop (length s % 8) s)) f.ensures
     ∙ front_first s (g.args.sum % 2 ^ 24)
     ∙ from_mod s g.args.sum (omega arith)
+
+pub returns-then-is_empty : goal.returns-then-is_empty
+returns-then-is_empty c =
+    let a = c.args in
+    sym (from_end a.bytes.now 0 a.sum (omega (arith, eqb-true _ _ (sym c.if-is_empty.ensures))))

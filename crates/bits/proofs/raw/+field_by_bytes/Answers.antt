@@ -1,5 +1,5 @@
 -- The last byte's part of a field stands behind what the call of itself reads, whose field is shorter: the measure is the width. Assumes nothing.
-use mathlib.Core.Path.{◌≡◌, sym, ap, ◌∙◌}
+use mathlib.Core.Path.{◌≡◌, refl, sym, ap, ◌∙◌}
 use Prim.Native.Nat.{◌+◌, ◌-◌}
 use native.Mathlib.Omega.{arith}
 use Rattle.bits.specs.Field.{field}
@@ -13,14 +13,14 @@ returns-then-width-eq0 t c = ap (field c.args.bytes.now c.args.start) (sym c.if-
 pub overflow_add-result : goal.overflow_add-result
 overflow_add-result t c =
     let a = c.args in
-    let m = c.least-m.result in
-    let e = chunk_step a.bytes.now a.start (a.width - m) m c.field_by_bytes.result c.wide-b.result c.field_by_bytes.ensures c.wide-b.ensures.0 (omega arith) (omega arith) in
+    let m = c.min-m.result in
+    let e = chunk_step a.bytes.now a.start (a.width - m) m c.field_by_bytes.result _ c.field_by_bytes.ensures refl (omega arith) (omega arith) in
     record { fits = rw e (field_below _ _ _ 64 (omega arith)) }
 
 pub returns : goal.returns
 returns t c =
     let a = c.args in
-    let m = c.least-m.result in
+    let m = c.min-m.result in
     let e : a.width - m + m ≡ a.width = omega arith in
-    chunk_step a.bytes.now a.start (a.width - m) m c.field_by_bytes.result c.wide-b.result c.field_by_bytes.ensures c.wide-b.ensures.0 (omega arith) (omega arith)
+    chunk_step a.bytes.now a.start (a.width - m) m c.field_by_bytes.result _ c.field_by_bytes.ensures refl (omega arith) (omega arith)
     ∙ ap (field a.bytes.now a.start) e

@@ -9,7 +9,7 @@ use Rattle.bits.proofs.raw.look.Goals as goal
 pub returns : goal.returns
 returns c =
     let a = c.args in
-    let i = c.least-i.result in
+    let i = c.min-i.result in
     let e : i * 8 + (a.start - i * 8) ≡ a.start = omega arith in
     ap (λ (x : ℕ). x * 2 ^ (a.start - i * 8) % 2 ^ 64 / 2 ^ (64 - a.width)) c.eight_at.ensures
     ∙ sym (field_within a.bytes.now (i * 8) 64 (a.start - i * 8) a.width (omega arith))

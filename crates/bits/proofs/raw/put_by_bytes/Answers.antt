@@ -25,7 +25,7 @@ pub loop-k-preserved : goal.loop-k-preserved
 loop-k-preserved c =
     let l = c.loop-k in
     let a = c.args in
-    let m = c.least-m.result in
+    let m = c.min-m.result in
     let i = (a.start + l.k) / 8 in
     let j = 8 - (a.start + l.k) % 8 - m in
     let v = a.number / 2 ^ (a.width - l.k - m) % 2 ^ m in

@@ -14,7 +14,7 @@ put_eight-requires c = (omega arith, omega arith, record { byte = λ k. search r
 pub returns : goal.returns
 returns c =
     let a = c.args in
-    let i = c.least-i.result in
+    let i = c.min-i.result in
     let s = a.bytes.now in
     let o = a.start - i * 8 in
     let j = 64 - a.width - o in
