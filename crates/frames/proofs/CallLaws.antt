@@ -41,7 +41,7 @@ pub record InOrder (a : List ℕ) (x : Scanner) : Type 0 where
   pub mode : x.mode ≤ 1
 
 -- the five tests, with what follows them
-abbrev pub tested : {A : Type 0} → (c d e f g : Bool) → Told A → Told A
+abbrev tested : {A : Type 0} → (c d e f g : Bool) → Told A → Told A
 tested c d e f g later = cond c size (cond d state (cond e state (cond f state (cond g state later))))
 
 abbrev pass : Told (Unit {0})
@@ -56,7 +56,7 @@ none_true false false false false true h = let z : ◌≡◌ {A = ℕ} 0 1 = cc 
 none_true false false false false false h = (refl, refl, refl, refl, refl)
 
 -- a test that is true refuses, whatever follows the tests
-pub first_true : {A B S : Type 0} (s : S) (later : Told B) (onward : B → Outcome A S) (n : ℕ) (cs : List ℕ) (c d e f g : Bool)
+first_true : {A B S : Type 0} (s : S) (later : Told B) (onward : B → Outcome A S) (n : ℕ) (cs : List ℕ) (c d e f g : Bool)
     → Refused n cs ≡ tested c d e f g pass → refusing s (tested c d e f g later) onward ≡ outcome (Refused n cs) s
 first_true s later onward n cs true d e f g h = let i : n ≡ 9 = cc in let j : cs ≡ [] = cc in rw (i, j)
 first_true s later onward n cs false true e f g h = let i : n ≡ 11 = cc in let j : cs ≡ [] = cc in rw (i, j)
@@ -77,12 +77,20 @@ module _ (a : List ℕ) (x : Scanner) {r : Result (Unit {0}) Refusal} (told : to
         mode = ltb-false 1 x.mode t.4;
       }
 
-  -- a refusal is that of the call
+  -- a refusal is that of these tests, whatever follows them
+  module _ {A B S : Type 0} (s : S) (later : Told B) (onward : B → Outcome A S) where
+    pub refused_first : {e : Refusal} → r ≡ Err e
+        → refusing s
+        (cond (not (eqb (length a) 1029)) size (cond (ltb 1029 x.count) state (cond (ltb x.taken x.count) state (cond (ltb (2 ^ 48) x.taken) state (cond (ltb 1 x.mode) state later)))))
+        onward ≡ outcome (Refused (number_of e) (carried_by e)) s
+    refused_first {e} g =
+        first_true s later onward (number_of e) (carried_by e)
+        (not (eqb (length a) 1029)) (ltb 1029 x.count) (ltb x.taken x.count) (ltb (2 ^ 48) x.taken) (ltb 1 x.mode) (sym (ap told_order g) ∙ told)
+
+  -- and so that of the call
   pub out_of_order : {W K : Type 0} (F : Framing W K) (p o : List ℕ) {e : Refusal} → r ≡ Err e → feed_of F a x p o ≡ outcome (Refused (number_of e) (carried_by e)) (a, o)
   unfolding feed_of
-  out_of_order F p o {e} g =
-      first_true (a, o) _ (λ h. called (feed (decide F) h p) x a o) (number_of e) (carried_by e)
-      (not (eqb (length a) 1029)) (ltb 1029 x.count) (ltb x.taken x.count) (ltb (2 ^ 48) x.taken) (ltb 1 x.mode) (sym (ap told_order g) ∙ told)
+  out_of_order F p o g = refused_first (a, o) _ (λ h. called (feed (decide F) h p) x a o) g
 
 module _ {K : Type 0} (areas : List ℕ × List ℕ) (onward : List ℕ → FedOutcome K) (y : FedOutcome K) (r : FedAnswer K) (ans : y.answer ≡ Accepted r) where
   -- State, on any of its four grounds

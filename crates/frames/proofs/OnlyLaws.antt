@@ -10,13 +10,13 @@ use Rattle.frames.specs.Frame.{number_of, check, frame_part, data_part, inside_p
 use Rattle.frames.specs.Rtcm.{rtcm}
 use Rattle.frames.specs.Walk.{next_from}
 use Rattle.frames.specs.Listing.{list_of}
-use Rattle.frames.specs.Call.{Scanner, fresh, afresh}
-use Rattle.frames.specs.Answers.{told_number, told_checked, told_framed, told_next, known}
+use Rattle.frames.specs.Call.{Scanner, fresh, afresh, order_of}
+use Rattle.frames.specs.Answers.{told_number, told_checked, told_framed, told_next, told_order, known}
 use Rattle.frames.specs.declared.frame.Frame.{Frame}
 use Rattle.frames.specs.declared.scan.Next.{Next}
 use Rattle.frames.specs.declared.list.Listing.{Listing}
 use Rattle.frames.specs.declared.scanner.Scanner as code
-use Rattle.frames.proofs.ToldLaws.{number_one_to_one, checked_one_to_one, next_one_to_one, only_framed, only_known}
+use Rattle.frames.proofs.ToldLaws.{number_one_to_one, checked_one_to_one, next_one_to_one, order_one_to_one, only_framed, only_known}
 
 pub only_check : (s : List ℕ) {x y : Result Frame Refusal} → told_checked x ≡ check s → told_checked y ≡ check s → x ≡ y
 only_check s e f = checked_one_to_one.same (e ∙ sym f)
@@ -54,3 +54,6 @@ only_fresh mode = only_known (fresh mode)
 
 pub only_reset : (s : Scanner) {x y : code.Scanner} → known x ≡ afresh s → known y ≡ afresh s → x ≡ y
 only_reset s = only_known (afresh s)
+
+pub only_in_order : (a : List ℕ) (s : Scanner) {x y : Result (Unit {0}) Refusal} → told_order x ≡ order_of a s → told_order y ≡ order_of a s → x ≡ y
+only_in_order a s e f = order_one_to_one.same (e ∙ sym f)

@@ -19,7 +19,7 @@ use Rattle.frames.specs.Close.{ClosedAnswer}
 use Rattle.frames.specs.Rtcm.{Kind, Rtcm, Ubx}
 use Rattle.frames.specs.Walk as walk
 use Rattle.frames.specs.Walk.{Place}
-use Rattle.frames.specs.Answers.{told_number, known_frame, told_checked, told_framed, told_next, known, known_fed, told_fed, known_closed, told_closed}
+use Rattle.frames.specs.Answers.{told_number, known_frame, told_checked, told_framed, told_next, known, known_fed, told_order, told_fed, known_closed, told_closed}
 use Rattle.frames.specs.declared.frame.Frame.{Frame}
 use Rattle.frames.specs.declared.scan.Next.{Next}
 use Rattle.frames.specs.declared.scan.Next.TheVariants as X
@@ -109,6 +109,9 @@ fed_one_to_one = told_one_to_one known_fed (injective known_fed fed fed_again)
 -- and the held areas and outputs that two runs leave are equal too
 pub only_fed : (d : FedOutcome Kind) {x y : Result Fed Refusal} {s t : List ℕ × List ℕ} → outcome (told_fed x) s ≡ d → outcome (told_fed y) t ≡ d → (x ≡ y) × (s ≡ t)
 only_fed d = only_outcome told_fed fed_one_to_one d
+
+pub order_one_to_one : OneToOne told_order
+order_one_to_one = told_one_to_one (λ u. u) (λ x y e. e)
 
 -- two scanners that know the same are the same
 pub only_known : (d : Scanner) {x y : code.Scanner} → known x ≡ d → known y ≡ d → x ≡ y
