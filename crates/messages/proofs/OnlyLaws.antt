@@ -19,7 +19,7 @@ use Rattle.messages.specs.declared.signals.NumberFound.{NumberFound}
 use Rattle.messages.specs.declared.signals1059.Signal1059.{Signal1059}
 use Rattle.messages.specs.declared.signals1059.Number1059.{Number1059}
 use Rattle.messages.specs.declared.signals.Order.{Order}
-use Rattle.messages.specs.declared.answer.BlockRead.{BlockRead}
+use Rattle.messages.specs.declared.answer.Records.{Records}
 use Rattle.std.specs.Prelude.{Result}
 use Rattle.bits.specs.declared.refusal.Refusal.{Refusal}
 use Rattle.bits.proofs.ToldLaws.{only}
@@ -61,11 +61,11 @@ only_hundredths_1230 raw p q = p ∙ sym q
 
 -- ---- bias blocks
 
-pub only_read_1059 : (s : List ℕ) (p : ℕ) (a b : List ℕ) (c : List ℤ) {x y : BlockRead} {l m : List ℕ × List ℕ × List ℤ}
+pub only_read_1059 : (s : List ℕ) (p : ℕ) (a b : List ℕ) (c : List ℤ) {x y : Result Records Refusal} {l m : List ℕ × List ℕ × List ℤ}
     → outcome (told_read x) l ≡ read1059 s p a b c → outcome (told_read y) m ≡ read1059 s p a b c → (x ≡ y) × (l ≡ m)
 only_read_1059 s p a b c = only_read (read1059 s p a b c)
 
-pub only_read_1230 : (s : List ℕ) (p : ℕ) (b : List ℕ) (c : List ℤ) {x y : BlockRead} {l m : List ℕ × List ℤ}
+pub only_read_1230 : (s : List ℕ) (p : ℕ) (b : List ℕ) (c : List ℤ) {x y : Result Records Refusal} {l m : List ℕ × List ℤ}
     → outcome (told_read x) l ≡ read1230 s p b c → outcome (told_read y) m ≡ read1230 s p b c → (x ≡ y) × (l ≡ m)
 only_read_1230 s p b c = only_read (read1230 s p b c)
 

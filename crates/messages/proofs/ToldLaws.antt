@@ -1,17 +1,14 @@
 -- An answer of the code is fixed by what it tells, and so by a statement, and with it the lent memory. Assumes nothing.
-use mathlib.Core.Path.{◌≡◌, refl}
-use mathlib.Core.Bool.{cond}
+use mathlib.Core.Path.{◌≡◌, refl, ap}
 use mathlib.Core.List.{List}
 use Prim.Native.Nat.{ℕ}
-use lib.Dec.{eqb}
-use lib.ListN.{get_or}
 use Rattle.bits.specs.Told.{Told, Accepted, Refused, OneToOne}
 use Rattle.bits.specs.Outcome.{Outcome, outcome}
 use Rattle.bits.proofs.OutcomeLaws.{only_outcome}
 use Rattle.bits.proofs.ToldLaws.{found_again}
 use Rattle.messages.specs.Signals.{Signal, sig, Found, At, None}
 use Rattle.messages.specs.Records.{Counted}
-use Rattle.messages.specs.Answers.{found_signal, found_number, told_signal, told_number, told_order, told_read, told_block}
+use Rattle.messages.specs.Answers.{found_signal, found_number, told_signal, told_number, told_order, records_of, told_read, told_block}
 use Rattle.messages.specs.declared.signals.SignalFound.{SignalFound}
 use Rattle.messages.specs.declared.signals.SignalFound.TheVariants as S
 use Rattle.messages.specs.declared.signals.NumberFound.{NumberFound}
@@ -22,8 +19,7 @@ use Rattle.messages.specs.declared.signals1059.Number1059.{Number1059}
 use Rattle.messages.specs.declared.signals1059.Number1059.TheVariants as M
 use Rattle.messages.specs.declared.signals.Order.{Order}
 use Rattle.messages.specs.declared.signals.Order.TheVariants as O
-use Rattle.messages.specs.declared.answer.BlockRead.{BlockRead}
-use Rattle.messages.specs.declared.answer.BlockRead.TheVariants as R
+use Rattle.messages.specs.declared.answer.Records.{Records}
 use Rattle.std.specs.Prelude.{Result}
 use Rattle.bits.specs.declared.refusal.Refusal.{Refusal}
 use Rattle.bits.proofs.RefusalLaws.{told_one_to_one}
@@ -85,22 +81,14 @@ number_one_to_one = found_again told_number number number_again
 
 -- ---- reading a block
 
-read : Told Counted → BlockRead
-read (Accepted c) = R.Records c.count c.end
-read (Refused n carried) = cond (eqb n 9) R.Size (cond (eqb n 1) (R.Short (get_or carried 0 0) (get_or carried 1 0)) (R.Room (get_or carried 0 0)))
-
-read_again : (x : BlockRead) → read (told_read x) ≡ x
-unfolding read
-read_again (R.Records n q) = refl
-read_again R.Size = refl
-read_again (R.Short p m) = refl
-read_again (R.Room n) = refl
+records_one : (x y : Records) → records_of x ≡ records_of y → x ≡ y
+records_one x y e = ap (λ (c : Counted). record { count = c.count; end = c.end }) e
 
 pub read_one_to_one : OneToOne told_read
-read_one_to_one = found_again told_read read read_again
+read_one_to_one = told_one_to_one records_of records_one
 
 -- two outcomes that a statement allows are equal, the lent lists too
-pub only_read : {S : Type 0} (d : Outcome Counted S) {x y : BlockRead} {l m : S} → outcome (told_read x) l ≡ d → outcome (told_read y) m ≡ d → (x ≡ y) × (l ≡ m)
+pub only_read : {S : Type 0} (d : Outcome Counted S) {x y : Result Records Refusal} {l m : S} → outcome (told_read x) l ≡ d → outcome (told_read y) m ≡ d → (x ≡ y) × (l ≡ m)
 only_read d = only_outcome told_read read_one_to_one d
 
 -- ---- writing a block

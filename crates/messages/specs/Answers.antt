@@ -1,6 +1,6 @@
 -- What each answer of the code tells. Assumes nothing.
 use Rattle.std.specs.Prelude.{ℕ, ℤ, Result}
-use Rattle.bits.specs.Told.{Told, Accepted, short, room, size, kind}
+use Rattle.bits.specs.Told.{Told, Accepted, kind}
 use Rattle.messages.specs.Signals.{Signal, sig, Found, At, None}
 use Rattle.messages.specs.SignalOrder.{less, equal, greater}
 use Rattle.messages.specs.Records.{Counted, counted}
@@ -14,8 +14,7 @@ use Rattle.messages.specs.declared.signals1059.Number1059.{Number1059}
 use Rattle.messages.specs.declared.signals1059.Number1059.TheVariants as M
 use Rattle.messages.specs.declared.signals.Order.{Order}
 use Rattle.messages.specs.declared.signals.Order.TheVariants as O
-use Rattle.messages.specs.declared.answer.BlockRead.{BlockRead}
-use Rattle.messages.specs.declared.answer.BlockRead.TheVariants as R
+use Rattle.messages.specs.declared.answer.Records.{Records}
 use Rattle.bits.specs.Refusals.{told}
 use Rattle.bits.specs.declared.refusal.Refusal.{Refusal}
 
@@ -47,12 +46,13 @@ told_order O.Less = less
 told_order O.Equal = equal
 told_order O.Greater = greater
 
+-- how many records there are, and the bit behind them
+abbrev pub records_of : Records → Counted
+records_of r = counted r.count r.end
+
 -- how many records were read, and the bit behind the block; or a refusal
-abbrev pub told_read : BlockRead → Told Counted
-told_read (R.Records n q) = Accepted (counted n q)
-told_read R.Size = size
-told_read (R.Short p m) = short p m
-told_read (R.Room n) = room n
+abbrev pub told_read : Result Records Refusal → Told Counted
+told_read = told records_of
 
 -- the bit behind the block that was written; or a refusal
 abbrev pub told_block : Result ℕ Refusal → Told ℕ
