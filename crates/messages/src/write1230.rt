@@ -1,6 +1,5 @@
 // Writing the bias block of message 1230.
 ghost use Rattle.std.specs.Prelude.{◌≡◌, true, cond, [], ◌+◌, ◌*◌, ◌^◌, ◌≤◌, ◌<◌, length, eqb};
-ghost use Rattle.bits.specs.Signed.{fits_twos, twos_bits};
 ghost use Rattle.bits.specs.Outcome.{outcome};
 ghost use Rattle.bits.specs.Field.{put_field};
 ghost use Rattle.bits.specs.Fields.{put_all};
@@ -109,7 +108,7 @@ fn join(above: Joined, signal: u8, signals: &[u8], biases: &[i16]) -> Joined
 {
     for (i, other) in signals.iter().enumerate() {
         if *other == signal {
-            let word = word_of(biases[i]);
+            let word = put::bits_of::<16>(biases[i]);
             return Joined {
                 mask: above.mask * 2 + 1,
                 word: (above.word << 16) + word,
@@ -135,15 +134,4 @@ fn put_joined(bytes: &mut [u8], start: usize, n: usize, all: Joined)
     let upper = (all.mask << 32) + (all.word >> 32);
     let at = put::unsigned(bytes, start, 36, upper);
     let _end = put::unsigned(bytes, at, 32, all.word % 4294967296);
-}
-
-// The 16 bits of a bias.
-fn word_of(bias: i16) -> u64
-    requires { fits_twos 16 bias ≡ true }
-    ensures { (result ≡ twos_bits 16 bias) × (result < 2 ^ 16) }
-{
-    if bias < 0 {
-        return 65535 - (-1 - bias) as u64;
-    }
-    bias as u64
 }

@@ -33,36 +33,36 @@ left c =
     let a = c.args in
     let d = c.requires.1 in
     left_on
-    (left_put (numbers a.a a.count) (bias_fields (of_satellite a.a (records1059 a.satellites.now a.signals.now a.biases.now)))
-    (satellite_left a.satellites.now a.signals.now a.biases.now d.signals d.biases a.a a.count c.requires.4 c.if-count-eq0.false (drawn a.bytes.now a.first.at a.first.bits) a.first.at)
+    (left_put (numbers a.a (get_or a.chains.now.counts a.a 0)) (bias_fields (of_satellite a.a (records1059 a.satellites.now a.signals.now a.biases.now)))
+    (satellite_left a.satellites.now a.signals.now a.biases.now d.signals d.biases a.a _ (c.requires.2.count a.a c.requires.3) c.if-count-eq0.false (drawn a.bytes.now a.first.at a.first.bits) a.first.at)
     c.two-pen.ensures)
     c.loop-i.invariant.2
 
 -- where the link leads
 linked : (c : At-loop-i) → c.loop-i.i < length c.args.satellites.now
-    → (c.loop-i.i < get_or c.args.links.now c.loop-i.i 0)
-    × (get_or c.args.links.now c.loop-i.i 0 ≤ length c.args.satellites.now)
-    × (get_or c.args.links.now c.loop-i.i 0 ≡ next_of c.args.satellites.now c.args.a (suc c.loop-i.i))
+    → (c.loop-i.i < get_or c.args.chains.now.links c.loop-i.i 0)
+    × (get_or c.args.chains.now.links c.loop-i.i 0 ≤ length c.args.satellites.now)
+    × (get_or c.args.chains.now.links c.loop-i.i 0 ≡ next_of c.args.satellites.now c.args.a (suc c.loop-i.i))
 linked c h =
-    let e = link_next c.args.satellites.now c.args.links.now c.requires.2 c.args.a c.loop-i.i h c.loop-i.invariant.1 in
+    let e = link_next c.args.satellites.now c.args.chains.now.links c.requires.2.chain c.args.a c.loop-i.i h c.loop-i.invariant.1 in
     let b = next_bounds c.args.satellites.now c.args.a (suc c.loop-i.i) h in
     (omega (arith, e, b.0), omega (arith, e, b.1), e)
 
 pub returns-then-count-eq0 : goal.returns-then-count-eq0
 returns-then-count-eq0 c =
     is_put_none (drawn c.args.bytes.now c.args.first.at c.args.first.bits) c.args.first.at
-    (satellite_none c.args.satellites.now c.args.signals.now c.args.biases.now c.requires.1.signals c.requires.1.biases c.args.a c.args.count c.requires.4 c.if-count-eq0.true)
+    (satellite_none c.args.satellites.now c.args.signals.now c.args.biases.now c.requires.1.signals c.requires.1.biases c.args.a _ (c.requires.2.count c.args.a c.requires.3) c.if-count-eq0.true)
 
 pub two-pen-requires : goal.two-pen-requires
 two-pen-requires c =
     let a = c.args in
     let d = c.requires.1 in (
-      left_fits (numbers a.a a.count) _
-          (satellite_left a.satellites.now a.signals.now a.biases.now d.signals d.biases a.a a.count c.requires.4 c.if-count-eq0.false (drawn a.bytes.now a.first.at a.first.bits) a.first.at)
+      left_fits (numbers a.a (get_or a.chains.now.counts a.a 0)) _
+          (satellite_left a.satellites.now a.signals.now a.biases.now d.signals d.biases a.a _ (c.requires.2.count a.a c.requires.3) c.if-count-eq0.false (drawn a.bytes.now a.first.at a.first.bits) a.first.at)
           c.requires.0,
       omega arith,
       c.requires.3,
-      c.requires.5,
+      c.requires.4,
     )
 
 pub loop-i-init : goal.loop-i-init
@@ -70,7 +70,7 @@ loop-i-init c =
     let sats = c.args.satellites.now in
     let d = c.requires.1 in
     let b = next_bounds sats c.args.a 0 (omega arith) in
-    rw c.requires.6 (
+    rw (c.requires.2.head c.args.a c.requires.3) (
       b.1,
       next_stands sats c.args.signals.now c.args.biases.now d.signals d.biases c.args.a 0 (omega arith),
       left_as (ap bias_fields (next_records sats c.args.signals.now c.args.biases.now d.signals d.biases c.args.a 0 (omega arith))) (left_all _ _ _),
@@ -83,7 +83,7 @@ pub bits_of-requires : goal.bits_of-requires
 bits_of-requires c =
     let l = c.loop-i in
     let z = get_or c.args.biases.now l.i (pos 0) in
-    rw (same_16 z (omega arith)) (c.requires.1.fits l.i c.loop-i-test.true)
+    (omega arith, omega arith, rw (same_16 z (omega arith)) (c.requires.1.fits l.i c.loop-i-test.true))
 
 pub two-pen-requires-in-loop-i : goal.two-pen-requires-in-loop-i
 two-pen-requires-in-loop-i c =
@@ -100,12 +100,6 @@ two-pen-requires-in-loop-i c =
       d.short l.i h,
       rw e at c.bits_of.ensures.1,
     )
-
-pub offset_bounds-links-i : goal.offset_bounds-links-i
-offset_bounds-links-i c = omega arith
-
-pub bounds-links-i : goal.bounds-links-i
-bounds-links-i c = omega arith
 
 pub overflow_cast-i-in-loop-i : goal.overflow_cast-i-in-loop-i
 overflow_cast-i-in-loop-i c =

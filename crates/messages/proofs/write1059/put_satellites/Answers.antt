@@ -24,30 +24,15 @@ open-pen-requires c = let f = c.requires.0 in (f.few, omega (arith, f.within))
 pub loop-a-init : goal.loop-a-init
 loop-a-init c = rw (c.open-pen.ensures.1, c.open-pen.ensures.0) (omega arith, left_all _ _ _)
 
-pub offset_bounds-counts-a : goal.offset_bounds-counts-a
-offset_bounds-counts-a c = omega arith
-
-pub bounds-counts-a : goal.bounds-counts-a
-bounds-counts-a c = omega arith
-
-pub offset_bounds-heads-a : goal.offset_bounds-heads-a
-offset_bounds-heads-a c = omega arith
-
-pub bounds-heads-a : goal.bounds-heads-a
-bounds-heads-a c = omega arith
-
 pub put_satellite-pen-requires : goal.put_satellite-pen-requires
 put_satellite-pen-requires c =
     let l = c.loop-a in
-    let h = c.loop-a-test.true in
-    let d = c.requires.2 in (
+    let h = c.loop-a-test.true in (
       left_fits (one c.args.satellites.now c.args.signals.now c.args.biases.now l.a) _ (left_as (satellites_next (records1059 c.args.satellites.now c.args.signals.now c.args.biases.now) l.a h) l.invariant.1) c.requires.0,
       c.requires.1,
-      d.chain,
+      c.requires.2,
       h,
-      d.count l.a h,
       c.requires.3 l.a h,
-      d.head l.a h,
     )
 
 pub loop-a-preserved : goal.loop-a-preserved

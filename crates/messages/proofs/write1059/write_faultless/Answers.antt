@@ -22,7 +22,7 @@ room : (c : Else-not-has_room) → c.args.start + (6 + c.present-m.result * 11 +
 room c = leb-true _ _ (sym c.has_room.ensures ∙ c.if-not-has_room.false)
 
 -- each satellite has fewer than 32 biases
-narrow : (c : Else-not-has_room) (i : ℕ) → i < 64 → get_or c.link.new.counts i 0 < 32
+narrow : (c : Else-not-has_room) (i : ℕ) → i < 64 → get_or c.link.new.self.counts i 0 < 32
 narrow c =
     sound_counts c.args.bytes.now c.args.start c.args.satellites.now c.args.signals.now c.args.biases.now c.requires.1 _ _ _
     c.link.ensures (sym c.in_ok-first_crowded.ensures) _ c.present-m.ensures.0

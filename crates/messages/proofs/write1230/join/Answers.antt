@@ -17,22 +17,22 @@ use Rattle.messages.proofs.write1230.join.Goals as goal
 pub loop-i-init : goal.loop-i-init
 loop-i-init c = (refl, refl)
 
-pub word_of-word-requires : goal.word_of-word-requires
-word_of-word-requires c =
+pub bits_of-word-requires : goal.bits_of-word-requires
+bits_of-word-requires c =
     let z = get_or c.args.biases.now c.loop-i.i (pos 0) in
-    rw (same_16 z (omega arith)) (all_fit z (omega arith))
+    (omega arith, omega arith, rw (same_16 z (omega arith)) (all_fit z (omega arith)))
 
 pub overflow_add-result-then-other-signal : goal.overflow_add-result-then-other-signal
-overflow_add-result-then-other-signal c = omega (arith, word_fits _ _ c.requires.2 c.word_of-word.ensures.1)
+overflow_add-result-then-other-signal c = omega (arith, word_fits _ _ c.requires.2 c.bits_of-word.ensures.1)
 
 pub returns-then-other-signal : goal.returns-then-other-signal
 returns-then-other-signal c =
     let l = c.loop-i in
     let z = get_or c.args.biases.now l.i (pos 0) in
-    let e = c.word_of-word.ensures.0 ∙ ap (twos_bits 16) (same_16 z (omega arith)) in
+    let e = c.bits_of-word.ensures.0 ∙ ap (twos_bits 16) (same_16 z (omega arith)) in
     let t = l.invariant.0 ∙ in_here c.args.signal c.args.signals.now l.i (omega arith) c.if-other-signal.true in
     let o = only_here c.args.signal c.args.signals.now c.args.biases.now c.requires.0.even l.i (omega arith) c.requires.0.single t c.if-other-signal.true l.invariant.1 in
-    (ap (λ (b : Bool). c.args.above.mask * 2 + cond b 1 0) (sym t), bias_joined _ _ c.requires.2 e c.word_of-word.ensures.1 o)
+    (ap (λ (b : Bool). c.args.above.mask * 2 + cond b 1 0) (sym t), bias_joined _ _ c.requires.2 e c.bits_of-word.ensures.1 o)
 
 pub loop-i-preserved : goal.loop-i-preserved
 loop-i-preserved c =

@@ -1,9 +1,9 @@
--- `messages::pen::open` meets its contract. The bits that the pen holds are those that stand there. Assumes nothing.
+-- `messages::pen::Pen::open` meets its contract. The bits that the pen holds are those that stand there. Assumes nothing.
 use mathlib.Core.Path.{refl, sym, ap, ◌∙◌}
 use Rattle.bits.specs.Fields.{Bytes}
 use Rattle.bits.specs.Answers.{told_unsigned}
 use Rattle.messages.proofs.PenLaws.{opened_read, opened_else}
-use Rattle.messages.proofs.pen.open.Goals as goal
+use Rattle.messages.proofs.pen.Pen.open.Goals as goal
 
 pub returns-in_default : goal.returns-in_default
 returns-in_default c =
