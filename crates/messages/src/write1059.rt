@@ -1,5 +1,5 @@
 // Writing the bias block of message 1059.
-ghost use Rattle.std.specs.Prelude.{◌≡◌, true, List, [], ℕ, ◌^◌, ◌≤◌, ◌<◌, length, get_or, ℤ};
+ghost use Rattle.std.specs.Prelude.{◌≡◌, [], ℕ, ◌≤◌, ◌<◌, length, get_or};
 ghost use Rattle.bits.specs.Signed.{fits_twos};
 ghost use Rattle.bits.specs.Outcome.{outcome};
 ghost use Rattle.bits.specs.Fields.{put_all};
@@ -61,27 +61,117 @@ fn write_known(
     if 1953 < n {
         return Err(Refusal::Size);
     }
-    first_fault(mask_1059(edition), satellites, signals, biases)?;
-    write_faultless(bytes, start, satellites, signals, biases)
+    let records = Records1059 {
+        satellites,
+        signals,
+        biases,
+    };
+    records.first_fault(mask_1059(edition))?;
+    records.write(bytes, start)
 }
 
-// The first fault of the records, where the mask has the signals of the edition.
-fn first_fault(mask: u32, satellites: &[u8], signals: &[u8], biases: &[i16]) -> Result<(), Refusal>
-    requires { (length satellites.now ≡ length signals.now) × (length satellites.now ≡ length biases.now) }
-    ensures { told_fault result ≡ first_fault (fault_by mask) 0 (records1059 satellites.now signals.now biases.now) }
-{
-    for (i, satellite) in satellites.iter().enumerate() {
-        if 63 < *satellite {
-            return Err(Refusal::Satellite(i));
+// Record i is satellite i, signal i and bias i of three lists of one length.
+#[derive(Clone, Copy)]
+struct Records1059<'a> {
+    satellites: &'a [u8],
+    signals: &'a [u8],
+    biases: &'a [i16],
+    ghost even: { (length satellites.now ≡ length signals.now) × (length satellites.now ≡ length biases.now) },
+}
+
+impl<'a> Records1059<'a> {
+    // The first fault, where the mask has the signals of the edition.
+    fn first_fault(&self, mask: u32) -> Result<(), Refusal>
+        ensures { told_fault result ≡ first_fault (fault_by mask) 0 (records1059 self.now.satellites.now self.now.signals.now self.now.biases.now) }
+    {
+        for (i, satellite) in self.satellites.iter().enumerate() {
+            if 63 < *satellite {
+                return Err(Refusal::Satellite(i));
+            }
+            if !in_mask(mask, self.signals[i]) {
+                return Err(Refusal::Signal(i));
+            }
+            if !fits_bias(self.biases[i]) {
+                return Err(Refusal::Range(i));
+            }
         }
-        if !in_mask(mask, signals[i]) {
-            return Err(Refusal::Signal(i));
-        }
-        if !fits_bias(biases[i]) {
-            return Err(Refusal::Range(i));
-        }
+        Ok(())
     }
-    Ok(())
+
+    // Writes the block of records that have no fault.
+    fn write(&self, bytes: &mut [u8], start: usize) -> Result<usize, Refusal>
+        requires { (length bytes.old ≤ 1023) × Faultless self.now.satellites.now self.now.signals.now self.now.biases.now }
+        ensures { outcome (told_block result) bytes.new ≡ write_faultless bytes.old start (records1059 self.now.satellites.now self.now.signals.now self.now.biases.now) }
+    {
+        let n = self.satellites.len();
+        let mut chains = Chains {
+            heads: [n as u16; 64],
+            links: [0u16; 1953],
+            counts: [0u16; 64],
+        };
+        chains.link(self.satellites);
+        chains.first_crowded()?;
+        let m = chains.present();
+        if m == 64 {
+            return Err(Refusal::TooMany(64));
+        }
+        self.first_repeat()?;
+        let bits = 6 + m * 11 + n * 19;
+        if !put::has_room(bytes.len(), start, bits) {
+            return Err(Refusal::Room(bits));
+        }
+        let at = put::unsigned(bytes, start, 6, m as u64);
+        self.put_satellites(bytes, at, &chains);
+        Ok(start + bits)
+    }
+
+    // Duplicate with the index of the first record with the satellite and the signal of an earlier one. Of each satellite
+    // the signals so far are the bits of one word.
+    fn first_repeat(&self) -> Result<(), Refusal>
+        requires { Faultless self.now.satellites.now self.now.signals.now self.now.biases.now }
+        ensures { told_fault result ≡ first_repeat same_pair 0 [] (records1059 self.now.satellites.now self.now.signals.now self.now.biases.now) }
+    {
+        let mut seen = [0u32; 64];
+        for (i, satellite) in self.satellites.iter().enumerate() {
+            let a = *satellite as usize;
+            if in_mask(seen[a], self.signals[i]) {
+                return Err(Refusal::Duplicate(i));
+            }
+            seen[a] = with_number(seen[a], self.signals[i]);
+        }
+        Ok(())
+    }
+
+    // The satellites that have a bias, ascending, each with its biases.
+    fn put_satellites(&self, bytes: &mut [u8], start: usize, chains: &Chains)
+        requires { RoomFor bytes.old start (satellites_from 0 64 (records1059 self.now.satellites.now self.now.signals.now self.now.biases.now)) × Faultless self.now.satellites.now self.now.signals.now self.now.biases.now × Linked self.now.satellites.now chains.now.heads chains.now.links chains.now.counts 0 × ((a : ℕ) → a < 64 → get_or chains.now.counts a 0 < 32) }
+        ensures { bytes.new ≡ put_all bytes.old start (satellites_from 0 64 (records1059 self.now.satellites.now self.now.signals.now self.now.biases.now)) }
+    {
+        let mut pen = Pen::open(bytes, start);
+        for a in 0..64 {
+            pen = self.put_satellite(bytes, pen, a, chains);
+        }
+        pen.lift(bytes);
+    }
+
+    // Satellite a: its number, its bias count, and its biases by the links. Nothing where it has none.
+    fn put_satellite(&self, bytes: &mut [u8], first: Pen, a: usize, chains: &Chains) -> Pen
+        requires { RoomFor (drawn bytes.old first.at first.bits) first.at (satellite_fields a (of_satellite a (records1059 self.now.satellites.now self.now.signals.now self.now.biases.now))) × Faultless self.now.satellites.now self.now.signals.now self.now.biases.now × Linked self.now.satellites.now chains.now.heads chains.now.links chains.now.counts 0 × (a < 64) × (get_or chains.now.counts a 0 < 32) }
+        ensures { IsPut (drawn bytes.old first.at first.bits) first.at (satellite_fields a (of_satellite a (records1059 self.now.satellites.now self.now.signals.now self.now.biases.now))) (drawn bytes.new result.at result.bits) result.at }
+    {
+        let count = chains.counts[a];
+        if count == 0 {
+            return first;
+        }
+        let mut pen = first.two(bytes, 6, a as u64, 5, count as u64);
+        let mut i = chains.heads[a] as usize;
+        while i < self.satellites.len() {
+            let bias = put::bits_of::<14>(self.biases[i]);
+            pen = pen.two(bytes, 5, self.signals[i] as u64, 14, bias);
+            i = chains.links[i] as usize;
+        }
+        pen
+    }
 }
 
 // Whether a bias fits 14 bits.
@@ -92,39 +182,6 @@ fn fits_bias(bias: i16) -> bool
         return -8193 < bias;
     }
     bias < 8192
-}
-
-// Writes the block of records that have no fault.
-fn write_faultless(
-    bytes: &mut [u8],
-    start: usize,
-    satellites: &[u8],
-    signals: &[u8],
-    biases: &[i16],
-) -> Result<usize, Refusal>
-    requires { (length bytes.old ≤ 1023) × Faultless satellites.now signals.now biases.now }
-    ensures { outcome (told_block result) bytes.new ≡ write_faultless bytes.old start (records1059 satellites.now signals.now biases.now) }
-{
-    let n = satellites.len();
-    let mut chains = Chains {
-        heads: [n as u16; 64],
-        links: [0u16; 1953],
-        counts: [0u16; 64],
-    };
-    chains.link(satellites);
-    chains.first_crowded()?;
-    let m = chains.present();
-    if m == 64 {
-        return Err(Refusal::TooMany(64));
-    }
-    first_repeat(satellites, signals)?;
-    let bits = 6 + m * 11 + n * 19;
-    if !put::has_room(bytes.len(), start, bits) {
-        return Err(Refusal::Room(bits));
-    }
-    let at = put::unsigned(bytes, start, 6, m as u64);
-    put_satellites(bytes, at, &chains, satellites, signals, biases);
-    Ok(start + bits)
 }
 
 // The records of each satellite, linked: `heads` has the index of its first record, `counts` how many it has, and `links`
@@ -168,66 +225,4 @@ impl Chains {
     {
         self.counts.iter().filter(|count| **count != 0).count()
     }
-}
-
-// Duplicate with the index of the first record with the satellite and the signal of an earlier one. Of each satellite the
-// signals so far are the bits of one word.
-fn first_repeat(satellites: &[u8], signals: &[u8]) -> Result<(), Refusal>
-    requires { (length satellites.now ≡ length signals.now) × ((i : ℕ) → i < length satellites.now → get_or satellites.now i 0 < 64) × ((i : ℕ) → i < length satellites.now → get_or signals.now i 0 < 32) }
-    ensures { (zs : List ℤ) → length satellites.now ≡ length zs → told_fault result ≡ first_repeat same_pair 0 [] (records1059 satellites.now signals.now zs) }
-{
-    let mut seen = [0u32; 64];
-    for (i, satellite) in satellites.iter().enumerate() {
-        let a = *satellite as usize;
-        if in_mask(seen[a], signals[i]) {
-            return Err(Refusal::Duplicate(i));
-        }
-        seen[a] = with_number(seen[a], signals[i]);
-    }
-    Ok(())
-}
-
-// The satellites that have a bias, ascending, each with its biases.
-fn put_satellites(
-    bytes: &mut [u8],
-    start: usize,
-    chains: &Chains,
-    satellites: &[u8],
-    signals: &[u8],
-    biases: &[i16],
-)
-    requires { RoomFor bytes.old start (satellites_from 0 64 (records1059 satellites.now signals.now biases.now)) × Faultless satellites.now signals.now biases.now × Linked satellites.now chains.now.heads chains.now.links chains.now.counts 0 × ((a : ℕ) → a < 64 → get_or chains.now.counts a 0 < 32) }
-    ensures { bytes.new ≡ put_all bytes.old start (satellites_from 0 64 (records1059 satellites.now signals.now biases.now)) }
-{
-    let mut pen = Pen::open(bytes, start);
-    for a in 0..64 {
-        pen = put_satellite(bytes, pen, a, chains, satellites, signals, biases);
-    }
-    pen.lift(bytes);
-}
-
-// Satellite a: its number, its bias count, and its biases by the links. Nothing where it has none.
-fn put_satellite(
-    bytes: &mut [u8],
-    first: Pen,
-    a: usize,
-    chains: &Chains,
-    satellites: &[u8],
-    signals: &[u8],
-    biases: &[i16],
-) -> Pen
-    requires { RoomFor (drawn bytes.old first.at first.bits) first.at (satellite_fields a (of_satellite a (records1059 satellites.now signals.now biases.now))) × Faultless satellites.now signals.now biases.now × Linked satellites.now chains.now.heads chains.now.links chains.now.counts 0 × (a < 64) × (get_or chains.now.counts a 0 < 32) }
-    ensures { IsPut (drawn bytes.old first.at first.bits) first.at (satellite_fields a (of_satellite a (records1059 satellites.now signals.now biases.now))) (drawn bytes.new result.at result.bits) result.at }
-{
-    let count = chains.counts[a];
-    if count == 0 {
-        return first;
-    }
-    let mut pen = first.two(bytes, 6, a as u64, 5, count as u64);
-    let mut i = chains.heads[a] as usize;
-    while i < satellites.len() {
-        pen = pen.two(bytes, 5, signals[i] as u64, 14, put::bits_of::<14>(biases[i]));
-        i = chains.links[i] as usize;
-    }
-    pen
 }

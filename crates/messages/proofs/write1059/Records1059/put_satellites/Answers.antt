@@ -1,4 +1,4 @@
--- `messages::write1059::put_satellites` meets its contract. The loop's invariant: what is left to put are the satellites from `a` on. Assumes nothing.
+-- `messages::write1059::Records1059::put_satellites` meets its contract. The loop's invariant: what is left to put are the satellites from `a` on. Assumes nothing.
 use mathlib.Core.Path.{ap, ◌∙◌}
 use mathlib.Core.List.{List}
 use Prim.Native.Nat.{ℕ}
@@ -12,7 +12,7 @@ use Rattle.messages.specs.StepsWrite1059.{satellite_fields}
 use Rattle.formats.proofs.PutLaws.{left_all, left_as, left_fits, left_fits_all, left_put, left_none}
 use Rattle.messages.proofs.Fields1059Laws.{satellites_next, satellites_none}
 use Rattle.messages.proofs.PenLaws.{length_drawn}
-use Rattle.messages.proofs.write1059.put_satellites.Goals as goal
+use Rattle.messages.proofs.write1059.Records1059.put_satellites.Goals as goal
 
 -- the fields of satellite a, of records with these columns
 abbrev one : List ℕ → List ℕ → List ℤ → ℕ → List Field
@@ -28,7 +28,7 @@ pub put_satellite-pen-requires : goal.put_satellite-pen-requires
 put_satellite-pen-requires c =
     let l = c.loop-a in
     let h = c.loop-a-test.true in (
-      left_fits (one c.args.satellites.now c.args.signals.now c.args.biases.now l.a) _ (left_as (satellites_next (records1059 c.args.satellites.now c.args.signals.now c.args.biases.now) l.a h) l.invariant.1) c.requires.0,
+      left_fits (one c.args.self.now.satellites.now c.args.self.now.signals.now c.args.self.now.biases.now l.a) _ (left_as (satellites_next (records1059 c.args.self.now.satellites.now c.args.self.now.signals.now c.args.self.now.biases.now) l.a h) l.invariant.1) c.requires.0,
       c.requires.1,
       c.requires.2,
       h,
@@ -39,7 +39,7 @@ pub loop-a-preserved : goal.loop-a-preserved
 loop-a-preserved c =
     let l = c.loop-a in (
       omega arith,
-      left_put (one c.args.satellites.now c.args.signals.now c.args.biases.now l.a) _ (left_as (satellites_next (records1059 c.args.satellites.now c.args.signals.now c.args.biases.now) l.a c.loop-a-test.true) l.invariant.1) c.put_satellite-pen.ensures,
+      left_put (one c.args.self.now.satellites.now c.args.self.now.signals.now c.args.self.now.biases.now l.a) _ (left_as (satellites_next (records1059 c.args.self.now.satellites.now c.args.self.now.signals.now c.args.self.now.biases.now) l.a c.loop-a-test.true) l.invariant.1) c.put_satellite-pen.ensures,
     )
 
 pub lift-requires : goal.lift-requires
@@ -55,4 +55,4 @@ shape_of-bytes c = ap length c.lift.ensures ∙ c.loop-a.invariant.1.same
 pub returns : goal.returns
 returns c =
     let l = c.loop-a in
-    c.lift.ensures ∙ (left_none (left_as (satellites_none (records1059 c.args.satellites.now c.args.signals.now c.args.biases.now) l.a c.loop-a-test.false) l.invariant.1)).left
+    c.lift.ensures ∙ (left_none (left_as (satellites_none (records1059 c.args.self.now.satellites.now c.args.self.now.signals.now c.args.self.now.biases.now) l.a c.loop-a-test.false) l.invariant.1)).left
