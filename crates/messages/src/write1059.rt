@@ -61,46 +61,54 @@ fn write_known(
     if 1953 < n {
         return Err(Refusal::Size);
     }
+    first_fault(mask_1059(edition), satellites, signals, biases)?;
     let records = Records1059 {
         satellites,
         signals,
         biases,
     };
-    records.first_fault(mask_1059(edition))?;
     records.write(bytes, start)
 }
 
-// Record i is satellite i, signal i and bias i of three lists of one length.
+// The first fault of the records, where the mask has the signals of the edition.
+fn first_fault(mask: u32, satellites: &[u8], signals: &[u8], biases: &[i16]) -> Result<(), Refusal>
+    requires { (length satellites.now ≡ length signals.now) × (length satellites.now ≡ length biases.now) }
+    ensures { told_fault result ≡ first_fault (fault_by mask) 0 (records1059 satellites.now signals.now biases.now) }
+{
+    for (i, satellite) in satellites.iter().enumerate() {
+        if 63 < *satellite {
+            return Err(Refusal::Satellite(i));
+        }
+        if !in_mask(mask, signals[i]) {
+            return Err(Refusal::Signal(i));
+        }
+        if !fits_bias(biases[i]) {
+            return Err(Refusal::Range(i));
+        }
+    }
+    Ok(())
+}
+
+// Whether a bias fits 14 bits.
+fn fits_bias(bias: i16) -> bool
+    ensures { result ≡ fits_twos 14 bias }
+{
+    (-8192..8192).contains(&bias)
+}
+
+// Records that have no fault, at most 1,953. Record i is satellite i, signal i and bias i of three lists of one length.
 #[derive(Clone, Copy)]
 struct Records1059<'a> {
     satellites: &'a [u8],
     signals: &'a [u8],
     biases: &'a [i16],
-    ghost even: { (length satellites.now ≡ length signals.now) × (length satellites.now ≡ length biases.now) },
+    ghost faultless: { Faultless satellites.now signals.now biases.now },
 }
 
 impl<'a> Records1059<'a> {
-    // The first fault, where the mask has the signals of the edition.
-    fn first_fault(&self, mask: u32) -> Result<(), Refusal>
-        ensures { told_fault result ≡ first_fault (fault_by mask) 0 (records1059 self.now.satellites.now self.now.signals.now self.now.biases.now) }
-    {
-        for (i, satellite) in self.satellites.iter().enumerate() {
-            if 63 < *satellite {
-                return Err(Refusal::Satellite(i));
-            }
-            if !in_mask(mask, self.signals[i]) {
-                return Err(Refusal::Signal(i));
-            }
-            if !fits_bias(self.biases[i]) {
-                return Err(Refusal::Range(i));
-            }
-        }
-        Ok(())
-    }
-
-    // Writes the block of records that have no fault.
+    // Writes the block.
     fn write(&self, bytes: &mut [u8], start: usize) -> Result<usize, Refusal>
-        requires { (length bytes.old ≤ 1023) × Faultless self.now.satellites.now self.now.signals.now self.now.biases.now }
+        requires { length bytes.old ≤ 1023 }
         ensures { outcome (told_block result) bytes.new ≡ write_faultless bytes.old start (records1059 self.now.satellites.now self.now.signals.now self.now.biases.now) }
     {
         let n = self.satellites.len();
@@ -128,12 +136,11 @@ impl<'a> Records1059<'a> {
     // Duplicate with the index of the first record with the satellite and the signal of an earlier one. Of each satellite
     // the signals so far are the bits of one word.
     fn first_repeat(&self) -> Result<(), Refusal>
-        requires { Faultless self.now.satellites.now self.now.signals.now self.now.biases.now }
         ensures { told_fault result ≡ first_repeat same_pair 0 [] (records1059 self.now.satellites.now self.now.signals.now self.now.biases.now) }
     {
         let mut seen = [0u32; 64];
         for (i, satellite) in self.satellites.iter().enumerate() {
-            let a = *satellite as usize;
+            let a = usize::from(*satellite);
             if in_mask(seen[a], self.signals[i]) {
                 return Err(Refusal::Duplicate(i));
             }
@@ -144,7 +151,7 @@ impl<'a> Records1059<'a> {
 
     // The satellites that have a bias, ascending, each with its biases.
     fn put_satellites(&self, bytes: &mut [u8], start: usize, chains: &Chains)
-        requires { RoomFor bytes.old start (satellites_from 0 64 (records1059 self.now.satellites.now self.now.signals.now self.now.biases.now)) × Faultless self.now.satellites.now self.now.signals.now self.now.biases.now × Linked self.now.satellites.now chains.now.heads chains.now.links chains.now.counts 0 × ((a : ℕ) → a < 64 → get_or chains.now.counts a 0 < 32) }
+        requires { RoomFor bytes.old start (satellites_from 0 64 (records1059 self.now.satellites.now self.now.signals.now self.now.biases.now)) × Linked self.now.satellites.now chains.now.heads chains.now.links chains.now.counts 0 × ((a : ℕ) → a < 64 → get_or chains.now.counts a 0 < 32) }
         ensures { bytes.new ≡ put_all bytes.old start (satellites_from 0 64 (records1059 self.now.satellites.now self.now.signals.now self.now.biases.now)) }
     {
         let mut pen = Pen::open(bytes, start);
@@ -156,32 +163,22 @@ impl<'a> Records1059<'a> {
 
     // Satellite a: its number, its bias count, and its biases by the links. Nothing where it has none.
     fn put_satellite(&self, bytes: &mut [u8], first: Pen, a: usize, chains: &Chains) -> Pen
-        requires { RoomFor (drawn bytes.old first.at first.bits) first.at (satellite_fields a (of_satellite a (records1059 self.now.satellites.now self.now.signals.now self.now.biases.now))) × Faultless self.now.satellites.now self.now.signals.now self.now.biases.now × Linked self.now.satellites.now chains.now.heads chains.now.links chains.now.counts 0 × (a < 64) × (get_or chains.now.counts a 0 < 32) }
+        requires { RoomFor (drawn bytes.old first.at first.bits) first.at (satellite_fields a (of_satellite a (records1059 self.now.satellites.now self.now.signals.now self.now.biases.now))) × Linked self.now.satellites.now chains.now.heads chains.now.links chains.now.counts 0 × (a < 64) × (get_or chains.now.counts a 0 < 32) }
         ensures { IsPut (drawn bytes.old first.at first.bits) first.at (satellite_fields a (of_satellite a (records1059 self.now.satellites.now self.now.signals.now self.now.biases.now))) (drawn bytes.new result.at result.bits) result.at }
     {
         let count = chains.counts[a];
         if count == 0 {
             return first;
         }
-        let mut pen = first.two(bytes, 6, a as u64, 5, count as u64);
-        let mut i = chains.heads[a] as usize;
+        let mut pen = first.two(bytes, 6, a as u64, 5, u64::from(count));
+        let mut i = usize::from(chains.heads[a]);
         while i < self.satellites.len() {
             let bias = put::bits_of::<14>(self.biases[i]);
-            pen = pen.two(bytes, 5, self.signals[i] as u64, 14, bias);
-            i = chains.links[i] as usize;
+            pen = pen.two(bytes, 5, u64::from(self.signals[i]), 14, bias);
+            i = usize::from(chains.links[i]);
         }
         pen
     }
-}
-
-// Whether a bias fits 14 bits.
-fn fits_bias(bias: i16) -> bool
-    ensures { result ≡ fits_twos 14 bias }
-{
-    if bias < 0 {
-        return -8193 < bias;
-    }
-    bias < 8192
 }
 
 // The records of each satellite, linked: `heads` has the index of its first record, `counts` how many it has, and `links`
@@ -200,7 +197,7 @@ impl Chains {
         ensures { Linked satellites.now self.new.heads self.new.links self.new.counts 0 }
     {
         for i in (0..satellites.len()).rev() {
-            let a = satellites[i] as usize;
+            let a = usize::from(satellites[i]);
             self.links[i] = self.heads[a];
             self.heads[a] = i as u16;
             self.counts[a] += 1;

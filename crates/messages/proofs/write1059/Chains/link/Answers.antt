@@ -10,15 +10,12 @@ use Rattle.messages.proofs.write1059.Chains.link.Goals as goal
 pub loop-i-init : goal.loop-i-init
 loop-i-init c = c.requires.2
 
-pub overflow_cast-a : goal.overflow_cast-a
-overflow_cast-a c = omega (arith, c.type_inv.satellites (c.loop-i.i - 1))
-
 pub overflow_add-self : goal.overflow_add-self
 overflow_add-self c =
     let s = c.args.satellites.now in
     let l = c.loop-i in
     let b = c.requires.1 (l.i - 1) (omega arith) in
-    omega (arith, l.invariant.count (get_or s (l.i - 1) 0) b, count_from s (get_or s (l.i - 1) 0) l.i)
+    rw c.from-a.ensures (omega (arith, l.invariant.count (get_or s (l.i - 1) 0) b, count_from s (get_or s (l.i - 1) 0) l.i))
 
 pub loop-i-preserved : goal.loop-i-preserved
 loop-i-preserved c =
@@ -26,8 +23,8 @@ loop-i-preserved c =
     let sats = c.args.satellites.now in
     let e : suc (l.i - 1) ≡ l.i = omega arith in
     let h : l.i - 1 < length sats = omega arith in
-      linked_more sats l.self.heads l.self.links l.self.counts (l.i - 1) (get_or sats (l.i - 1) 0) h refl (c.requires.1 (l.i - 1) h) c.requires.0
-          (subst (Linked sats l.self.heads l.self.links l.self.counts) (sym e) l.invariant)
+      rw c.from-a.ensures (linked_more sats l.self.heads l.self.links l.self.counts (l.i - 1) (get_or sats (l.i - 1) 0) h refl (c.requires.1 (l.i - 1) h) c.requires.0
+          (subst (Linked sats l.self.heads l.self.links l.self.counts) (sym e) l.invariant))
 
 pub returns : goal.returns
 returns c =

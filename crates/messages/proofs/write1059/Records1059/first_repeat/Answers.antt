@@ -11,18 +11,18 @@ loop-i-init c = let a = c.args in (refl, looked_none a.self.now.satellites.now a
 pub returns-then-in_mask : goal.returns-then-in_mask
 returns-then-in_mask c =
     let l = c.loop-i in
-    sym (looked_here c.args.self.now.satellites.now c.args.self.now.signals.now c.args.self.now.biases.now c.requires.signals c.requires.biases l.seen l.i l.invariant.1 (omega arith) (c.requires.low l.i (omega arith)) (sym c.in_mask.ensures ∙ c.if-in_mask.true))
+    sym (looked_here c.args.self.now.satellites.now c.args.self.now.signals.now c.args.self.now.biases.now c.args.self.now.faultless.signals c.args.self.now.faultless.biases l.seen l.i l.invariant.1 (omega arith) (c.args.self.now.faultless.low l.i (omega arith)) (sym (rw c.from-a.ensures at c.in_mask.ensures) ∙ c.if-in_mask.true))
 
 pub with_number-requires : goal.with_number-requires
-with_number-requires c = c.requires.short c.loop-i.i (omega arith)
+with_number-requires c = c.args.self.now.faultless.short c.loop-i.i (omega arith)
 
 pub loop-i-preserved : goal.loop-i-preserved
 loop-i-preserved c =
     let l = c.loop-i in
     let sats = c.args.self.now.satellites.now in
-    let gs = c.args.self.now.signals.now in (
+    let gs = c.args.self.now.signals.now in rw c.from-a.ensures (
       length-set l.seen (get_or sats l.i 0) _ ∙ l.invariant.0,
-      looked_on sats gs c.args.self.now.biases.now c.requires.signals c.requires.biases l.seen l.i l.invariant.1 (omega arith) (c.requires.low l.i (omega arith)) (sym c.in_mask.ensures ∙ c.if-in_mask.false) l.invariant.0 _ c.with_number.ensures,
+      looked_on sats gs c.args.self.now.biases.now c.args.self.now.faultless.signals c.args.self.now.faultless.biases l.seen l.i l.invariant.1 (omega arith) (c.args.self.now.faultless.low l.i (omega arith)) (sym (rw c.from-a.ensures at c.in_mask.ensures) ∙ c.if-in_mask.false) l.invariant.0 _ (rw c.from-a.ensures at c.with_number.ensures),
     )
 
 pub returns : goal.returns

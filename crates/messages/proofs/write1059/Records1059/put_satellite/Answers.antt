@@ -31,11 +31,11 @@ left : (c : At-loop-i)
     (bias_fields (of_satellite c.args.a (from1059 c.args.self.now.satellites.now c.args.self.now.signals.now c.args.self.now.biases.now c.loop-i.i)))
 left c =
     let a = c.args in
-    let d = c.requires.1 in
+    let d = c.args.self.now.faultless in
     left_on
     (left_put (numbers a.a (get_or a.chains.now.counts a.a 0)) (bias_fields (of_satellite a.a (records1059 a.self.now.satellites.now a.self.now.signals.now a.self.now.biases.now)))
-    (satellite_left a.self.now.satellites.now a.self.now.signals.now a.self.now.biases.now d.signals d.biases a.a _ (c.requires.2.count a.a c.requires.3) c.if-count-eq0.false (drawn a.bytes.now a.first.at a.first.bits) a.first.at)
-    c.two-pen.ensures)
+    (satellite_left a.self.now.satellites.now a.self.now.signals.now a.self.now.biases.now d.signals d.biases a.a _ (c.requires.1.count a.a c.requires.2) c.if-count-eq0.false (drawn a.bytes.now a.first.at a.first.bits) a.first.at)
+    (rw c.from.ensures at c.two-pen.ensures))
     c.loop-i.invariant.2
 
 -- where the link leads
@@ -44,55 +44,52 @@ linked : (c : At-loop-i) → c.loop-i.i < length c.args.self.now.satellites.now
     × (get_or c.args.chains.now.links c.loop-i.i 0 ≤ length c.args.self.now.satellites.now)
     × (get_or c.args.chains.now.links c.loop-i.i 0 ≡ next_of c.args.self.now.satellites.now c.args.a (suc c.loop-i.i))
 linked c h =
-    let e = link_next c.args.self.now.satellites.now c.args.chains.now.links c.requires.2.chain c.args.a c.loop-i.i h c.loop-i.invariant.1 in
+    let e = link_next c.args.self.now.satellites.now c.args.chains.now.links c.requires.1.chain c.args.a c.loop-i.i h c.loop-i.invariant.1 in
     let b = next_bounds c.args.self.now.satellites.now c.args.a (suc c.loop-i.i) h in
     (omega (arith, e, b.0), omega (arith, e, b.1), e)
 
 pub returns-then-count-eq0 : goal.returns-then-count-eq0
 returns-then-count-eq0 c =
     is_put_none (drawn c.args.bytes.now c.args.first.at c.args.first.bits) c.args.first.at
-    (satellite_none c.args.self.now.satellites.now c.args.self.now.signals.now c.args.self.now.biases.now c.requires.1.signals c.requires.1.biases c.args.a _ (c.requires.2.count c.args.a c.requires.3) c.if-count-eq0.true)
+    (satellite_none c.args.self.now.satellites.now c.args.self.now.signals.now c.args.self.now.biases.now c.args.self.now.faultless.signals c.args.self.now.faultless.biases c.args.a _ (c.requires.1.count c.args.a c.requires.2) c.if-count-eq0.true)
 
 pub two-pen-requires : goal.two-pen-requires
 two-pen-requires c =
     let a = c.args in
-    let d = c.requires.1 in (
+    let d = c.args.self.now.faultless in rw c.from.ensures (
       left_fits (numbers a.a (get_or a.chains.now.counts a.a 0)) _
-          (satellite_left a.self.now.satellites.now a.self.now.signals.now a.self.now.biases.now d.signals d.biases a.a _ (c.requires.2.count a.a c.requires.3) c.if-count-eq0.false (drawn a.bytes.now a.first.at a.first.bits) a.first.at)
+          (satellite_left a.self.now.satellites.now a.self.now.signals.now a.self.now.biases.now d.signals d.biases a.a _ (c.requires.1.count a.a c.requires.2) c.if-count-eq0.false (drawn a.bytes.now a.first.at a.first.bits) a.first.at)
           c.requires.0,
       omega arith,
+      c.requires.2,
       c.requires.3,
-      c.requires.4,
     )
 
 pub loop-i-init : goal.loop-i-init
 loop-i-init c =
     let sats = c.args.self.now.satellites.now in
-    let d = c.requires.1 in
+    let d = c.args.self.now.faultless in
     let b = next_bounds sats c.args.a 0 (omega arith) in
-    rw (c.requires.2.head c.args.a c.requires.3) (
+    rw (c.from-i.ensures, c.requires.1.head c.args.a c.requires.2) (
       b.1,
       next_stands sats c.args.self.now.signals.now c.args.self.now.biases.now d.signals d.biases c.args.a 0 (omega arith),
       left_as (ap bias_fields (next_records sats c.args.self.now.signals.now c.args.self.now.biases.now d.signals d.biases c.args.a 0 (omega arith))) (left_all _ _ _),
     )
 
-pub overflow_cast-self : goal.overflow_cast-self
-overflow_cast-self c = omega (arith, c.requires.1.short c.loop-i.i c.loop-i-test.true)
-
 pub bits_of-bias-requires : goal.bits_of-bias-requires
 bits_of-bias-requires c =
     let l = c.loop-i in
     let z = get_or c.args.self.now.biases.now l.i (pos 0) in
-    (omega arith, omega arith, rw (same_16 z (omega arith)) (c.requires.1.fits l.i c.loop-i-test.true))
+    (omega arith, omega arith, rw (same_16 z (omega arith)) (c.args.self.now.faultless.fits l.i c.loop-i-test.true))
 
 pub two-pen-requires-in-loop-i : goal.two-pen-requires-in-loop-i
 two-pen-requires-in-loop-i c =
     let l = c.loop-i in
-    let d = c.requires.1 in
+    let d = c.args.self.now.faultless in
     let h = c.loop-i-test.true in
     let z = get_or c.args.self.now.biases.now l.i (pos 0) in
     let e = c.bits_of-bias.ensures.0 ∙ ap (twos_bits 14) (same_16 z (omega arith)) in
-    rw e (
+    rw (e, c.from-in-loop-i.ensures) (
       left_fits (bits 5 (get_or c.args.self.now.signals.now l.i 0) ∷ bits 14 (twos_bits 14 z) ∷ []) _
           (left_as (bias_here c.args.self.now.satellites.now c.args.self.now.signals.now c.args.self.now.biases.now d.signals d.biases c.args.a l.i h l.invariant.1) (left (goal.at.two-pen-requires-in-loop-i c).At-loop-i))
           c.requires.0,
@@ -101,25 +98,20 @@ two-pen-requires-in-loop-i c =
       rw e at c.bits_of-bias.ensures.1,
     )
 
-pub overflow_cast-i-in-loop-i : goal.overflow_cast-i-in-loop-i
-overflow_cast-i-in-loop-i c =
-    let e = linked (goal.at.overflow_cast-i-in-loop-i c).At-loop-i c.loop-i-test.true in
-    omega (arith, e.0, e.1)
-
 pub loop-i-smaller : goal.loop-i-smaller
 loop-i-smaller c =
     let e = linked (goal.at.loop-i-smaller c).At-loop-i c.loop-i-test.true in
-    omega (arith, e.0, e.1)
+    omega (arith, c.from-i-in-loop-i.ensures, e.0, e.1)
 
 pub loop-i-preserved : goal.loop-i-preserved
 loop-i-preserved c =
     let l = c.loop-i in
     let sats = c.args.self.now.satellites.now in
-    let d = c.requires.1 in
+    let d = c.args.self.now.faultless in
     let h = c.loop-i-test.true in
     let z = get_or c.args.self.now.biases.now l.i (pos 0) in
     let e = linked (goal.at.loop-i-preserved c).At-loop-i h in
-    let put = rw (c.bits_of-bias.ensures.0 ∙ ap (twos_bits 14) (same_16 z (omega arith))) at c.two-pen-in-loop-i.ensures in (
+    let put = rw (c.from-in-loop-i.ensures, c.bits_of-bias.ensures.0 ∙ ap (twos_bits 14) (same_16 z (omega arith))) at c.two-pen-in-loop-i.ensures in rw c.from-i-in-loop-i.ensures (
       e.1,
       rw e.2 (next_stands sats c.args.self.now.signals.now c.args.self.now.biases.now d.signals d.biases c.args.a (suc l.i) h),
       rw e.2
@@ -135,5 +127,5 @@ shape_of-bytes c =
 
 pub returns : goal.returns
 returns c =
-    let d = c.requires.1 in
+    let d = c.args.self.now.faultless in
     left_none (left_as (bias_none c.args.self.now.satellites.now c.args.self.now.signals.now c.args.self.now.biases.now d.signals d.biases c.args.a c.loop-i.i c.loop-i-test.false) (left (goal.at.returns c).At-loop-i))

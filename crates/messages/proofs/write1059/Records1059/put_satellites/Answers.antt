@@ -30,9 +30,8 @@ put_satellite-pen-requires c =
     let h = c.loop-a-test.true in (
       left_fits (one c.args.self.now.satellites.now c.args.self.now.signals.now c.args.self.now.biases.now l.a) _ (left_as (satellites_next (records1059 c.args.self.now.satellites.now c.args.self.now.signals.now c.args.self.now.biases.now) l.a h) l.invariant.1) c.requires.0,
       c.requires.1,
-      c.requires.2,
       h,
-      c.requires.3 l.a h,
+      c.requires.2 l.a h,
     )
 
 pub loop-a-preserved : goal.loop-a-preserved
