@@ -35,8 +35,10 @@ returns-in_err-first_fault c =
 pub invariant_of-records : goal.invariant_of-records
 invariant_of-records c =
     let a = c.args in
-    record { faultless = sound a.edition a.satellites.now a.signals.now a.biases.now c.if-n-signals.false c.if-n-biases.false c.if-n-gt1953.false
-    (first_fault_is a.edition _ _ _ c.mask_1059.ensures c.in_ok-first_fault.ensures) }
+    record {
+      faultless = sound a.edition a.satellites.now a.signals.now a.biases.now c.if-n-signals.false c.if-n-biases.false c.if-n-gt1953.false
+          (first_fault_is a.edition _ _ _ c.mask_1059.ensures c.in_ok-first_fault.ensures);
+    }
 
 pub returns : goal.returns
 returns c =

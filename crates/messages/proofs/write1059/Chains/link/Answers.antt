@@ -7,9 +7,6 @@ use Rattle.messages.specs.StepsWrite1059.{Linked}
 use Rattle.messages.proofs.LinkLaws.{count_from, linked_more}
 use Rattle.messages.proofs.write1059.Chains.link.Goals as goal
 
-pub loop-i-init : goal.loop-i-init
-loop-i-init c = c.requires.2
-
 pub overflow_add-self : goal.overflow_add-self
 overflow_add-self c =
     let s = c.args.satellites.now in
@@ -23,8 +20,8 @@ loop-i-preserved c =
     let sats = c.args.satellites.now in
     let e : suc (l.i - 1) ≡ l.i = omega arith in
     let h : l.i - 1 < length sats = omega arith in
-      rw c.from-a.ensures (linked_more sats l.self.heads l.self.links l.self.counts (l.i - 1) (get_or sats (l.i - 1) 0) h refl (c.requires.1 (l.i - 1) h) c.requires.0
-          (subst (Linked sats l.self.heads l.self.links l.self.counts) (sym e) l.invariant))
+    rw c.from-a.ensures (linked_more sats l.self.heads l.self.links l.self.counts (l.i - 1) (get_or sats (l.i - 1) 0) h refl (c.requires.1 (l.i - 1) h) c.requires.0
+    (subst (Linked sats l.self.heads l.self.links l.self.counts) (sym e) l.invariant))
 
 pub returns : goal.returns
 returns c =

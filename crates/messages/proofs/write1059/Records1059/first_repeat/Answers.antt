@@ -13,9 +13,6 @@ returns-then-in_mask c =
     let l = c.loop-i in
     sym (looked_here c.args.self.now.satellites.now c.args.self.now.signals.now c.args.self.now.biases.now c.args.self.now.faultless.signals c.args.self.now.faultless.biases l.seen l.i l.invariant.1 (omega arith) (c.args.self.now.faultless.low l.i (omega arith)) (sym (rw c.from-a.ensures at c.in_mask.ensures) ∙ c.if-in_mask.true))
 
-pub with_number-requires : goal.with_number-requires
-with_number-requires c = c.args.self.now.faultless.short c.loop-i.i (omega arith)
-
 pub loop-i-preserved : goal.loop-i-preserved
 loop-i-preserved c =
     let l = c.loop-i in

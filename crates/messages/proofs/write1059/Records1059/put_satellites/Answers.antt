@@ -1,9 +1,8 @@
 -- `messages::write1059::Records1059::put_satellites` meets its contract. The loop's invariant: what is left to put are the satellites from `a` on. Assumes nothing.
-use mathlib.Core.Path.{ap, ◌∙◌}
+use mathlib.Core.Path.{◌∙◌}
 use mathlib.Core.List.{List}
 use Prim.Native.Nat.{ℕ}
 use native.Mathlib.Omega.{arith}
-use lib.ListN.{length}
 use lib.IntN.{ℤ}
 use Rattle.bits.specs.Fields.{Field}
 use Rattle.messages.specs.Records.{records1059}
@@ -17,9 +16,6 @@ use Rattle.messages.proofs.write1059.Records1059.put_satellites.Goals as goal
 -- the fields of satellite a, of records with these columns
 abbrev one : List ℕ → List ℕ → List ℤ → ℕ → List Field
 one sats sigs zs a = satellite_fields a (of_satellite a (records1059 sats sigs zs))
-
-pub open-pen-requires : goal.open-pen-requires
-open-pen-requires c = let f = c.requires.0 in (f.few, omega (arith, f.within))
 
 pub loop-a-init : goal.loop-a-init
 loop-a-init c = rw (c.open-pen.ensures.1, c.open-pen.ensures.0) (omega arith, left_all _ _ _)
@@ -47,9 +43,6 @@ lift-requires c =
     let f = left_fits_all _ l.invariant.1 c.requires.0 in
     let n = length_drawn l.bytes l.pen.at l.pen.bits in
     (omega (arith, f.few, n), omega (arith, f.within, n))
-
-pub shape_of-bytes : goal.shape_of-bytes
-shape_of-bytes c = ap length c.lift.ensures ∙ c.loop-a.invariant.1.same
 
 pub returns : goal.returns
 returns c =

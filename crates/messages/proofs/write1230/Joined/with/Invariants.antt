@@ -1,11 +1,11 @@
--- `messages::write1230::join` meets its contract. The loop's invariant: the signal is not before `i`. Assumes nothing.
+-- `messages::write1230::Joined::with` meets its contract. The loop's invariant: the signal is not before `i`. Assumes nothing.
 use mathlib.Core.Path.{◌≡◌}
 use lib.ListN.{drop}
 use Rattle.messages.specs.Records.{records1230}
 use Rattle.messages.specs.Layout1230.{of_signal}
 use Rattle.messages.specs.Write1230.{is_in}
 use Rattle.messages.proofs.RecordLaws.{from1230}
-use Rattle.messages.proofs.write1230.join.Given as goal
+use Rattle.messages.proofs.write1230.Joined.with.Given as goal
 
 abbrev pub invariant-loop-i : goal.invariant-loop-i
 invariant-loop-i l =

@@ -1,8 +1,8 @@
--- `messages::write1230::put_joined` meets its contract. One field, or 68 bits cut in two. Assumes nothing.
+-- `messages::write1230::Joined::put` meets its contract. One field, or 68 bits cut in two. Assumes nothing.
 use borrow.Author.Rules.{rules}
 use native.Mathlib.Omega.{arith}
 use Rattle.messages.proofs.JoinLaws.{one_room, few_fit, few_put, upper_fit, lower_room, four_put}
-use Rattle.messages.proofs.write1230.put_joined.Goals as goal
+use Rattle.messages.proofs.write1230.Joined.put.Goals as goal
 
 pub overflow_add-number : goal.overflow_add-number
 overflow_add-number c =
