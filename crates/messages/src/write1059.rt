@@ -171,6 +171,7 @@ impl<'a> Records1059<'a> {
             return first;
         }
         let mut pen = first.two(bytes, 6, a as u64, 5, u64::from(count));
+        // Along the links, and not by place: no `for` goes that way.
         let mut i = usize::from(chains.heads[a]);
         while i < self.satellites.len() {
             let bias = put::bits_of::<14>(self.biases[i]);
