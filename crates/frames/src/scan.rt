@@ -1,7 +1,7 @@
 // The whole-stream scan as a call, and the search for a frame that it shares with the scanner.
 //
 // The search looks at bytes that are held and a piece behind them as one stream, which is nowhere copied together.
-ghost use Rattle.std.specs.Prelude.{◌≡◌, true, [], ◌++◌, ◌+◌, ◌*◌, ◌^◌, ◌≤◌, ◌<◌, min, max, length, get_or, take, drop};
+ghost use Rattle.std.specs.Prelude.{◌≡◌, true, [], ◌++◌, ◌+◌, ◌*◌, ◌^◌, ◌≤◌, ◌<◌, length, get_or, take, drop};
 ghost use Rattle.bits.specs.Field.{field};
 ghost use Rattle.bits.specs.Crc.{crc};
 ghost use Rattle.frames.specs.Framing.{decide};
@@ -14,7 +14,7 @@ ghost use Rattle.frames.specs.Answers.{told_next};
 ghost use Rattle.frames.specs.declared.scan.Candidate.TheVariants.{Incomplete};
 ghost use Rattle.frames.specs.Steps.{starts_rtcm, starts_either, starts_in, Start, candidate, searched, among};
 
-use crate::{frame, many, ubx};
+use crate::{many, ubx};
 use bits::crc;
 
 // What the scan comes to next: a frame, with its place and its length; or the place from which on the bytes are held.
@@ -102,10 +102,10 @@ fn first_rtcm(held: &[u8], piece: &[u8]) -> Searched
                 return Searched::More(j);
             }
             Candidate::Good(n) => {
-                return Searched::Frame(j, n, most(end, j + n) - h);
+                return Searched::Frame(j, n, end.max(j + n) - h);
             }
             Candidate::NotValid(n) => {
-                end = most(end, j + n);
+                end = end.max(j + n);
                 failed += 1;
                 i = j + 1;
             }
@@ -153,10 +153,10 @@ fn first_frame(held: &[u8], piece: &[u8], mode: u32) -> Searched
                 return Searched::More(start);
             }
             Candidate::Good(n) => {
-                return Searched::Frame(start, n, most(end, start + n) - h);
+                return Searched::Frame(start, n, end.max(start + n) - h);
             }
             Candidate::NotValid(n) => {
-                end = most(end, start + n);
+                end = end.max(start + n);
                 failed += 1;
                 i = start + 1;
             }
@@ -239,14 +239,12 @@ fn near_d3(part: &[u8], from: usize) -> usize
     requires { from ≤ length part.now }
     ensures { Start starts_rtcm part.now from result }
 {
-    let mut i = from;
-    while i < part.len() {
+    for i in from..part.len() {
         if part[i] == 0xD3 {
             return i;
         }
-        i += 1;
     }
-    i
+    part.len()
 }
 
 // The place of the first D3 or B5 of a part from a place on, or its end.
@@ -272,17 +270,15 @@ fn near_either(part: &[u8], from: usize) -> usize
     requires { from ≤ length part.now }
     ensures { Start starts_either part.now from result }
 {
-    let mut i = from;
-    while i < part.len() {
+    for i in from..part.len() {
         if part[i] == 0xB5 {
             return i;
         }
         if part[i] == 0xD3 {
             return i;
         }
-        i += 1;
     }
-    i
+    part.len()
 }
 
 // Whether one of the sixteen bytes from place i on is x. In this form all sixteen are compared at once.
@@ -360,7 +356,7 @@ fn sum_of(held: &[u8], piece: &[u8], i: usize, n: usize) -> u32
         let j = i - h;
         return crc::crc24q(&piece[j..j + n]);
     }
-    let m = least(h - i, n);
+    let m = (h - i).min(n);
     crc::crc24q_from(crc::crc24q(&held[i..i + m]), &piece[0..n - m])
 }
 
@@ -382,19 +378,7 @@ pub(crate) fn byte_at(held: &[u8], piece: &[u8], i: usize) -> u32
 {
     let h = held.len();
     if i < h {
-        return frame::wide(held[i]);
+        return held[i] as u32;
     }
-    frame::wide(piece[i - h])
-}
-
-pub(crate) fn least(a: usize, b: usize) -> usize
-    ensures { result ≡ min a b }
-{
-    if a < b { a } else { b }
-}
-
-pub(crate) fn most(a: usize, b: usize) -> usize
-    ensures { result ≡ max a b }
-{
-    if a < b { b } else { a }
+    piece[i - h] as u32
 }
