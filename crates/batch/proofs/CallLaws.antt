@@ -1,6 +1,6 @@
 -- What a call refuses and accepts: an equation for each case; and that a refused call writes nothing. Assumes nothing.
-use mathlib.Core.Path.{◌≡◌, refl, ◌∙◌, subst}
-use mathlib.Core.Bool.{Bool, cond, not}
+use mathlib.Core.Path.{◌≡◌, refl, sym, ◌∙◌, subst}
+use mathlib.Core.Bool.{Bool, true, false, cond, not}
 use mathlib.Core.List.{List, [], ◌∷◌, ◌++◌}
 use Prim.Native.Nat.{ℕ, zero, suc, ◌+◌, ◌-◌, ◌^◌, ◌≤◌, ◌<◌}
 use native.Mathlib.Nat.{sub-zero}
@@ -8,14 +8,19 @@ use native.Mathlib.Omega.{arith}
 use lib.ListN.{length, take, drop}
 use lib.Dec.{ltb, eqb}
 use borrow.Author.Tests.{ltb-false, eqb-true, eqb-false, not-false, lt-ltb, le-ltb, eq-eqb, ne_eqb}
-use Rattle.bits.specs.Told.{Told, Accepted, size, state, room}
+use Rattle.std.specs.Prelude.{Result, Err}
+use Rattle.bits.specs.Told.{Told, Accepted, Refused, size, state, room}
+use Rattle.bits.specs.Refusals.{number_of, carried_by}
+use Rattle.bits.specs.declared.refusal.Refusal.{Refusal}
 use Rattle.bits.specs.Outcome.{Outcome, outcome, refusing}
 use Rattle.bits.specs.Onto.{onto}
 use Rattle.bits.proofs.OutcomeLaws.{Keeps, accepted_keeps, refusing_keeps, not_refused}
 use Rattle.frames.specs.Framing.{Framing, decide}
 use Rattle.frames.specs.Scan.{scan}
 use Rattle.frames.specs.Rtcm.{Kind}
-use Rattle.frames.specs.Call.{Scanner, held_from, onwards}
+use Rattle.frames.specs.Call.{Scanner, held_from, onwards, order_of}
+use Rattle.frames.specs.Answers.{told_order}
+use Rattle.frames.proofs.CallLaws.{refused_first}
 use Rattle.frames.specs.Listing.{Found, first_of}
 use Rattle.batch.specs.Batch.{Areas, areas, left_of, AllAnswer, Frames, answer_of, called_all, held_in, feed_all_of}
 use Rattle.batch.specs.Steps.{Lists, lists, Walks, settled}
@@ -39,18 +44,25 @@ positive : (n : ℕ) → (n ≡ 0 → ⊥) → 1 ≤ n
 positive zero h = absurd (h refl)
 positive (suc n) h = omega arith
 
+either_size : {A B S : Type 0} (s : S) (onward : B → Outcome A S) (b : Bool) → outcome size s ≡ refusing s (cond b size size) onward
+either_size s onward true = refl
+either_size s onward false = refl
+
 module _ {W : Type 0} (F : Framing W Kind) (a : Areas) (x : Scanner) (p : List ℕ) where
   -- ---- the cases of a call, in their order
 
-  pub wrong_area : (length a.held ≡ 1029 → ⊥) → outcome size a ≡ feed_all_of F a x p
+  -- Size of the seam, whichever area is judged first
+  pub wrong_seam : (length a.seam ≡ 2058 → ⊥) → outcome size a ≡ feed_all_of F a x p
   unfolding feed_all_of
-  wrong_area h = rw (ne_eqb (length a.held) 1029 h)
+  wrong_seam n = rw (ne_eqb (length a.seam) 2058 n) (either_size a _ (not (eqb (length a.held) 1029)))
+
+  -- a held area and a scanner that are not in order
+  pub out_of_order : length a.seam ≡ 2058 → {r : Result (Unit {0}) Refusal} → told_order r ≡ order_of a.held x → {e : Refusal} → r ≡ Err e
+      → outcome (Refused (number_of e) (carried_by e)) a ≡ feed_all_of F a x p
+  unfolding feed_all_of
+  out_of_order s told {e} g = rw (eq-eqb (length a.seam) 2058 s) (sym (refused_first a.held x told a _ _ g))
 
   module _ (h : length a.held ≡ 1029) where
-    pub wrong_seam : (length a.seam ≡ 2058 → ⊥) → outcome size a ≡ feed_all_of F a x p
-    unfolding feed_all_of
-    wrong_seam n = rw (eq-eqb (length a.held) 1029 h, ne_eqb (length a.seam) 2058 n)
-
     module _ (s : length a.seam ≡ 2058) where
       -- what is left to judge
       abbrev Later : Told (List ℕ) → Type 0
@@ -69,21 +81,9 @@ module _ {W : Type 0} (F : Framing W Kind) (a : Areas) (x : Scanner) (p : List �
       unfolding feed_all_of sizes
       later = rw (eq-eqb (length a.held) 1029 h, eq-eqb (length a.seam) 2058 s)
 
-      pub wrong_count : 1029 < x.count → outcome state a ≡ feed_all_of F a x p
-      wrong_count l = rw (lt-ltb 1029 x.count l) at later
-
       module _ (c : x.count ≤ 1029) where
-        pub over_taken : x.taken < x.count → outcome state a ≡ feed_all_of F a x p
-        over_taken l = rw (le-ltb 1029 x.count c, lt-ltb x.taken x.count l) at later
-
         module _ (d : x.count ≤ x.taken) where
-          pub over_limit : 2 ^ 48 < x.taken → outcome state a ≡ feed_all_of F a x p
-          over_limit l = rw (le-ltb 1029 x.count c, le-ltb x.taken x.count d, lt-ltb (2 ^ 48) x.taken l) at later
-
           module _ (e : x.taken ≤ 2 ^ 48) where
-            pub wrong_mode : 1 < x.mode → outcome state a ≡ feed_all_of F a x p
-            wrong_mode l = rw (le-ltb 1029 x.count c, le-ltb x.taken x.count d, le-ltb (2 ^ 48) x.taken e, lt-ltb 1 x.mode l) at later
-
             module _ (m : x.mode ≤ 1) where
               in_order : Later sizes
               in_order = rw (le-ltb 1029 x.count c, le-ltb x.taken x.count d, le-ltb (2 ^ 48) x.taken e, le-ltb 1 x.mode m) at later

@@ -1,14 +1,16 @@
 -- What each answer of the code tells. Assumes nothing.
-use Rattle.bits.specs.Told.{Told, Accepted, size, state, room}
+use Rattle.std.specs.Prelude.{Result}
+use Rattle.bits.specs.Told.{Told}
+use Rattle.bits.specs.Refusals.{told}
+use Rattle.bits.specs.declared.refusal.Refusal.{Refusal}
 use Rattle.frames.specs.Answers.{known}
 use Rattle.batch.specs.Batch as batch
 use Rattle.batch.specs.Batch.{AllAnswer}
-use Rattle.batch.specs.declared.feed.FedAll.{FedAll}
-use Rattle.batch.specs.declared.feed.FedAll.TheVariants as A
+use Rattle.batch.specs.declared.feed.Listed.{Listed}
 
 -- the frames that are listed, or Size, State, Room with 1
-abbrev pub told_all : FedAll → Told AllAnswer
-told_all (A.Frames n t s f i x) = Accepted (batch.Frames n t s f i (known x))
-told_all A.Size = size
-told_all A.State = state
-told_all (A.Room n) = room n
+abbrev pub known_listed : Listed → AllAnswer
+known_listed r = batch.Frames r.count r.taken r.skipped r.full r.place (known r.scanner)
+
+abbrev pub told_all : Result Listed Refusal → Told AllAnswer
+told_all r = told known_listed r

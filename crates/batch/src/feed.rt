@@ -1,39 +1,36 @@
 // The call: a piece is fed to a scanner, and all its frames are listed.
 ghost use Rattle.std.specs.Prelude.{◌≡◌, ◌+◌, ◌^◌, ◌≤◌, ◌<◌, length, take};
+ghost use Rattle.bits.specs.Told.{Accepted};
 ghost use Rattle.bits.specs.Outcome.{outcome};
 ghost use Rattle.frames.specs.Modes.{framing_of};
 ghost use Rattle.frames.specs.Answers.{known};
 ghost use Rattle.batch.specs.Batch.{areas, taken_of, feed_all_of};
-ghost use Rattle.batch.specs.Answers.{told_all};
+ghost use Rattle.batch.specs.Answers.{known_listed, told_all};
 ghost use Rattle.batch.specs.Steps.{found_by, settled, Within};
 
 use crate::{copy, walk};
+use bits::refusal::Refusal;
 use frames::list::Listing;
+use frames::scanner;
 use frames::scanner::Scanner;
 
 // What a call answers: how many frames are listed, the bytes taken of the piece and the bytes skipped in this call,
 // whether the lists are full, the stream place of the first byte that was held before the call, and the scanner from now
-// on; or a refusal.
-#[derive(Clone, Copy)]
-pub enum FedAll {
-    Frames {
-        count: usize,
-        taken: usize,
-        skipped: usize,
-        full: bool,
-        place: u64,
-        scanner: Scanner,
-    },
-    Size,
-    State,
-    // Carries 1: lists of one place are enough for a call.
-    Room(usize),
+// on.
+#[derive(Clone, Copy, Debug, PartialEq, Eq)]
+pub struct Listed {
+    pub count: usize,
+    pub taken: usize,
+    pub skipped: usize,
+    pub full: bool,
+    pub place: u64,
+    pub scanner: Scanner,
 }
 
 // Feeds a piece to a scanner, whose held bytes are the first of the area `held`, and lists the frames: where each starts,
 // counted from the first byte held before the call, its length and its kind. A frame that starts in the held bytes is
 // copied to `seam`, at the same place. Where the lists are full, what the call does not take of the piece is to be offered
-// again.
+// again. A refusal is Size, State, or Room with 1: lists of one place are enough for a call.
 pub fn feed_all(
     held: &mut [u8],
     scanner: Scanner,
@@ -42,27 +39,13 @@ pub fn feed_all(
     starts: &mut [u32],
     lengths: &mut [u32],
     kinds: &mut [u8],
-) -> FedAll
+) -> Result<Listed, Refusal>
     ensures { outcome (told_all result) (areas held.new seam.new starts.new lengths.new kinds.new) ≡ feed_all_of (framing_of scanner.mode) (areas held.old seam.old starts.old lengths.old kinds.old) (known scanner) piece.now }
 {
-    if held.len() != 1029 {
-        return FedAll::Size;
-    }
     if seam.len() != 2058 {
-        return FedAll::Size;
+        return Err(Refusal::Size);
     }
-    if 1029 < scanner.count {
-        return FedAll::State;
-    }
-    if scanner.taken < scanner.count as u64 {
-        return FedAll::State;
-    }
-    if 0x1_0000_0000_0000 < scanner.taken {
-        return FedAll::State;
-    }
-    if 1 < scanner.mode {
-        return FedAll::State;
-    }
+    scanner::in_order(scanner, held)?;
     list_frames(held, scanner, piece, seam, starts, lengths, kinds)
 }
 
@@ -75,40 +58,40 @@ fn list_frames(
     starts: &mut [u32],
     lengths: &mut [u32],
     kinds: &mut [u8],
-) -> FedAll
+) -> Result<Listed, Refusal>
     requires { (length held.old ≡ 1029) × (length seam.old ≡ 2058) × (scanner.count ≤ 1029) × (scanner.count ≤ scanner.taken) × (scanner.taken ≤ 2 ^ 48) × (scanner.mode ≤ 1) }
     ensures { outcome (told_all result) (areas held.new seam.new starts.new lengths.new kinds.new) ≡ feed_all_of (framing_of scanner.mode) (areas held.old seam.old starts.old lengths.old kinds.old) (known scanner) piece.now }
 {
     if 65536 < piece.len() {
-        return FedAll::Size;
+        return Err(Refusal::Size);
     }
     if 0x1_0000_0000_0000 < scanner.taken + piece.len() as u64 {
-        return FedAll::Size;
+        return Err(Refusal::Size);
     }
     if lengths.len() != starts.len() {
-        return FedAll::Size;
+        return Err(Refusal::Size);
     }
     if kinds.len() != starts.len() {
-        return FedAll::Size;
+        return Err(Refusal::Size);
     }
     if starts.len() == 0 {
-        return FedAll::Room(1);
+        return Err(Refusal::Room(1));
     }
     let count = scanner.count;
     let mode = scanner.mode;
     let found = walk::walk(&held[0..count], piece, mode, seam, starts, lengths, kinds);
-    settle(held, scanner, piece, found)
+    Ok(settle(held, scanner, piece, found))
 }
 
 // Takes the piece as far as it was scanned, and holds what stands from where scanning stopped on.
-fn settle(held: &mut [u8], scanner: Scanner, piece: &[u8], found: Listing) -> FedAll
+fn settle(held: &mut [u8], scanner: Scanner, piece: &[u8], found: Listing) -> Listed
     requires { (scanner.count ≤ length held.old) × (scanner.count ≤ scanner.taken) × (scanner.taken + length piece.now < 2 ^ 64) × Within (length held.old) scanner.count (length piece.now) found }
-    ensures { outcome (told_all result) held.new ≡ settled found (known scanner) (take scanner.count held.old) piece.now held.old }
+    ensures { outcome (Accepted (known_listed result)) held.new ≡ settled found (known scanner) (take scanner.count held.old) piece.now held.old }
 {
     let count = scanner.count;
     let taken = taken_of(found, count, piece.len());
     let left = copy::slide(held, count, &piece[0..taken], found.stop);
-    FedAll::Frames {
+    Listed {
         count: found.count,
         taken,
         skipped: found.stop - found.framed,

@@ -7,8 +7,14 @@ use native.Mathlib.Decide.{ℕ_discrete, dec_lt}
 use lib.ListN.{length, get_or, take, drop, length-drop}
 use lib.Seq.{drop-cons, drop-drop}
 use borrow.Author.Tests.{le-leb, lt-leb, eq-eqb, ne_eqb}
-use Rattle.bits.specs.Told.{Told, Accepted, Refused, size, no_preamble, OneToOne}
-use Rattle.bits.proofs.ToldLaws.{found_again}
+use Rattle.bits.specs.Told.{Told, Accepted, size, bad_check, incomplete, OneToOne}
+use Rattle.std.specs.Prelude.{Result, Err}
+use Rattle.bits.specs.declared.refusal.Refusal.{Refusal}
+use Rattle.bits.specs.declared.refusal.Refusal.TheVariants as F
+use Rattle.frames.specs.declared.frame.Frame.{Frame}
+use Rattle.frames.specs.Answers.{told_checked}
+use Rattle.bits.proofs.RefusalLaws.{told_one_to_one}
+use Rattle.frames.proofs.ToldLaws.{injective, checked_one_to_one}
 use Rattle.frames.specs.Scan.{Skip}
 use Rattle.frames.specs.Framing.{decide}
 use Rattle.frames.specs.Frame.{data_length, sent_sum, own_sum, Whole, check}
@@ -19,30 +25,38 @@ use Rattle.frames.proofs.FrameLaws.{too_few, is_cut, sums_differ, sums_agree}
 use Rattle.frames.proofs.RtcmLaws.{decides_at}
 use Rattle.frames.proofs.StandLaws.{Tells, reason_tells}
 use Rattle.frames.proofs.FateLaws.{checked_all}
-use Rattle.closing.specs.Reason.{Ruled, GivenUp, Starts, ruled, ruled_at, told_ruled, Sort, NoD3, Wrong, WrongUbx, sort_of, by_byte, told_skip}
+use Rattle.closing.specs.Reason.{Ruled, GivenUp, Starts, ruled, ruled_at, known_ruled, told_ruled, Sort, NoD3, Wrong, WrongUbx, sort_of, by_byte, told_skip}
 use Rattle.closing.specs.declared.reason.Ruled as code
 use Rattle.closing.specs.declared.reason.Ruled.TheVariants as R
 use Rattle.closing.specs.declared.reason.Skip as skips
 use Rattle.closing.specs.declared.reason.Skip.TheVariants as S
 
--- a D3 has its preamble
-module _ (t : List ℕ) (d : get_or t 0 0 ≡ 0xD3) (e : no_preamble ≡ check t) where
-  other : {r : Told Whole} → r ≡ check t → r ≡ no_preamble
-  other g = g ∙ sym e
+-- what the check of a D3 refuses with no bad checksum is incomplete
+module _ (t : List ℕ) (d : get_or t 0 0 ≡ 0xD3) {r : Result Frame Refusal} (told : told_checked r ≡ check t) {e : Refusal} (is : r ≡ Err e) (other : (a b : ℕ) → e ≡ F.BadCheck a b → ⊥) where
+  differs : {a b : ℕ} → bad_check a b ≡ check t → ⊥
+  differs {a} {b} g =
+      let same : ◌≡◌ {A = Result Frame Refusal} (Err e) (Err (F.BadCheck a b)) = checked_one_to_one.same (sym (ap told_checked is) ∙ told ∙ sym g) in
+      let refusal : e ≡ F.BadCheck a b = cc in
+      other a b refusal
 
-  pub has_preamble : ⊥
-  has_preamble = few (dec_lt (length t) 6)
+  good_too : {w : Whole} → Accepted w ≡ check t → ⊥
+  good_too {w} g =
+      let both : ◌≡◌ {A = Told Whole} (told_checked (Err e)) (Accepted w) = sym (ap told_checked is) ∙ told ∙ sym g in
+      let z : ◌≡◌ {A = ℕ} 0 1 = cc in omega arith
+
+  pub is_incomplete : told_checked r ≡ incomplete
+  is_incomplete = few (dec_lt (length t) 6)
     where
-      differ : 6 ≤ length t → data_length t + 6 ≤ length t → Dec (own_sum t ≡ sent_sum t) → ⊥
-      differ h l (yes c) = let g = other (sums_agree t h d l c) in let z : ◌≡◌ {A = ℕ} 0 1 = cc in omega arith
-      differ h l (no c) = let g = other (sums_differ t h d l c) in let z : ◌≡◌ {A = ℕ} 14 10 = cc in omega arith
+      differ : 6 ≤ length t → data_length t + 6 ≤ length t → Dec (own_sum t ≡ sent_sum t) → told_checked r ≡ incomplete
+      differ h l (yes c) = absurd (good_too (sums_agree t h d l c))
+      differ h l (no c) = absurd (differs (sums_differ t h d l c))
 
-      cut : 6 ≤ length t → Dec (length t < data_length t + 6) → ⊥
-      cut h (yes l) = let g = other (is_cut t h d l) in let z : ◌≡◌ {A = ℕ} 12 10 = cc in omega arith
+      cut : 6 ≤ length t → Dec (length t < data_length t + 6) → told_checked r ≡ incomplete
+      cut h (yes l) = told ∙ sym (is_cut t h d l)
       cut h (no l) = differ h (omega arith) (ℕ_discrete (own_sum t) (sent_sum t))
 
-      few : Dec (length t < 6) → ⊥
-      few (yes h) = let g = other (too_few t h) in let z : ◌≡◌ {A = ℕ} 12 10 = cc in omega arith
+      few : Dec (length t < 6) → told_checked r ≡ incomplete
+      few (yes h) = told ∙ sym (too_few t h)
       few (no h) = cut (omega arith) (dec_lt (length t) (data_length t + 6))
 
 -- ---- which case of the definition holds
@@ -78,8 +92,11 @@ module _ (s : List ℕ) (q : ℕ) where
           let e : decide_at (get_or s q 0 ∷ drop (suc q) s) ≡ at_d3 (check (get_or s q 0 ∷ drop (suc q) s)) = rw (eq-eqb (get_or s q 0) 0xD3 d) in
           ap (λ z. Accepted (ruled (final z))) (ap at_d3 checked ∙ sym (decided ∙ e)) ∙ is_ruled l
 
-      pub not_without : r ≡ no_preamble → ⊥
-      not_without g = has_preamble (get_or s q 0 ∷ drop (suc q) s) d (sym g ∙ checked)
+    -- and refuses with no bad checksum where bytes are missing
+    pub by_missing : {r : Result Frame Refusal} → told_checked r ≡ check (take (length s - q) (drop q s)) → get_or s q 0 ≡ 0xD3 → {e : Refusal} → r ≡ Err e
+        → ((a b : ℕ) → e ≡ F.BadCheck a b → ⊥) → Accepted (GivenUp Unfinished) ≡ ruled_at s q
+    by_missing told d is other =
+        ap (λ z. Accepted (ruled (final (at_d3 z)))) (sym (is_incomplete (get_or s q 0 ∷ drop (suc q) s) d (checked d told) is other)) ∙ by_check d told
 
 -- the bytes from a place on tell the same of a byte as all bytes do
 pub ruled_behind : (s : List ℕ) (n i : ℕ) → n ≤ length s → ruled_at (drop n s) i ≡ ruled_at s (n + i)
@@ -116,27 +133,25 @@ is_no_d3 x n = rw (ne_eqb x 0xD3 n)
 
 -- ---- an answer of the code is fixed by what it tells
 
-of_told : Told Ruled → code.Ruled
-of_told (Accepted (GivenUp (Judged NotD3))) = R.NotD3
-of_told (Accepted (GivenUp (Judged (BadCheck a b)))) = R.BadCheck a b
-of_told (Accepted (GivenUp (Judged (OfUbx u)))) = R.NotD3
-of_told (Accepted (GivenUp Unfinished)) = R.Unfinished
-of_told (Accepted (Starts n)) = R.Frame n
-of_told (Refused n carried) = R.Size
+of_ruled : Ruled → code.Ruled
+of_ruled (GivenUp (Judged NotD3)) = R.NotD3
+of_ruled (GivenUp (Judged (BadCheck a b))) = R.BadCheck a b
+of_ruled (GivenUp (Judged (OfUbx u))) = R.NotD3
+of_ruled (GivenUp Unfinished) = R.Unfinished
+of_ruled (Starts n) = R.Frame n
 
-told_again : (x : code.Ruled) → of_told (told_ruled x) ≡ x
-unfolding of_told
-told_again R.NotD3 = refl
-told_again (R.BadCheck a b) = refl
-told_again R.Unfinished = refl
-told_again (R.Frame n) = refl
-told_again R.Size = refl
+ruled_again : (x : code.Ruled) → of_ruled (known_ruled x) ≡ x
+unfolding of_ruled
+ruled_again R.NotD3 = refl
+ruled_again (R.BadCheck a b) = refl
+ruled_again R.Unfinished = refl
+ruled_again (R.Frame n) = refl
 
 pub ruled_one_to_one : OneToOne told_ruled
-ruled_one_to_one = found_again told_ruled of_told told_again
+ruled_one_to_one = told_one_to_one known_ruled (injective known_ruled of_ruled ruled_again)
 
 -- two answers that the statement of `reason::at` allows are equal
-pub only_ruled : (s : List ℕ) (q : ℕ) {x y : code.Ruled} → told_ruled x ≡ ruled_at s q → told_ruled y ≡ ruled_at s q → x ≡ y
+pub only_ruled : (s : List ℕ) (q : ℕ) {x y : Result code.Ruled Refusal} → told_ruled x ≡ ruled_at s q → told_ruled y ≡ ruled_at s q → x ≡ y
 only_ruled s q e f = ruled_one_to_one.same (e ∙ sym f)
 
 skip_of : Sort → skips.Skip

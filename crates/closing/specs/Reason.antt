@@ -1,6 +1,8 @@
 -- Why a byte of an RTCM recording is given up, and the list of all that are. Assumes nothing.
-use Rattle.std.specs.Prelude.{◌≡◌, cond, List, [], ◌∷◌, ℕ, ◌+◌, length, drop, leb, eqb}
+use Rattle.std.specs.Prelude.{◌≡◌, cond, List, [], ◌∷◌, ℕ, ◌+◌, length, drop, leb, eqb, Result}
 use Rattle.bits.specs.Told.{Told, Accepted, size}
+use Rattle.bits.specs.Refusals.{told}
+use Rattle.bits.specs.declared.refusal.Refusal.{Refusal}
 use Rattle.frames.specs.Scan.{Decision, Skip, Take, Wait, Item, Skipped, Framed}
 use Rattle.frames.specs.Framing.{decide}
 use Rattle.frames.specs.Rtcm.{Why, NotD3, BadCheck, OfUbx, Kind, rtcm}
@@ -26,12 +28,14 @@ unfoldable pub ruled_at : List ℕ → ℕ → Told Ruled
 ruled_at s q = cond (leb (length s) q) size (Accepted (ruled (closing (decide rtcm) (drop q s))))
 
 -- what the answer of the code tells
-abbrev pub told_ruled : code.Ruled → Told Ruled
-told_ruled R.NotD3 = Accepted (GivenUp (Judged NotD3))
-told_ruled (R.BadCheck sent computed) = Accepted (GivenUp (Judged (BadCheck sent computed)))
-told_ruled R.Unfinished = Accepted (GivenUp Unfinished)
-told_ruled (R.Frame n) = Accepted (Starts n)
-told_ruled R.Size = size
+abbrev pub known_ruled : code.Ruled → Ruled
+known_ruled R.NotD3 = GivenUp (Judged NotD3)
+known_ruled (R.BadCheck sent computed) = GivenUp (Judged (BadCheck sent computed))
+known_ruled R.Unfinished = GivenUp Unfinished
+known_ruled (R.Frame n) = Starts n
+
+abbrev pub told_ruled : Result code.Ruled Refusal → Told Ruled
+told_ruled r = told known_ruled r
 
 -- ---- in feeding
 

@@ -1,18 +1,23 @@
 -- What a call refuses and accepts: an equation for each case. Assumes nothing.
-use mathlib.Core.Path.{◌≡◌, refl}
-use mathlib.Core.Bool.{Bool, false, cond, not}
+use mathlib.Core.Path.{◌≡◌, refl, sym, ap, ◌∙◌}
+use mathlib.Core.Bool.{Bool, true, false, cond, not}
 use mathlib.Core.List.{List, [], ◌∷◌}
 use Prim.Native.Nat.{ℕ, ◌+◌, ◌^◌, ◌≤◌, ◌<◌}
+use native.Mathlib.Omega.{arith}
+use Rattle.std.specs.Prelude.{Result, Ok, Err}
 use lib.ListN.{length, take}
 use lib.Dec.{ltb, eqb}
 use borrow.Author.Tests.{ltb-false, eqb-true, not-false, lt-ltb, le-ltb, eq-eqb, ne_eqb}
-use Rattle.bits.specs.Told.{Told, Accepted, size, state, room}
-use Rattle.bits.specs.Outcome.{outcome, refusing}
+use Rattle.bits.specs.Told.{Told, Accepted, Refused, size, state, room}
+use Rattle.bits.specs.Refusals.{number_of, carried_by}
+use Rattle.bits.specs.declared.refusal.Refusal.{Refusal}
+use Rattle.bits.specs.Outcome.{Outcome, outcome, refusing}
 use Rattle.bits.proofs.OutcomeLaws.{Keeps, accepted_keeps, refusing_keeps, not_refused}
 use Rattle.frames.specs.Framing.{Framing, decide}
 use Rattle.frames.specs.Feed as fed
 use Rattle.frames.specs.Feed.{Fed, feed}
-use Rattle.frames.specs.Call.{Scanner, FedAnswer, FedOutcome, called, held_of, feed_of}
+use Rattle.frames.specs.Call.{Scanner, FedAnswer, FedOutcome, called, order_of, held_of, feed_of}
+use Rattle.frames.specs.Answers.{told_order}
 
 -- what a call accepts: the held area, the scanner, the piece and the output
 pub record Fits (a : List ℕ) (x : Scanner) (p o : List ℕ) : Type 0 where
@@ -24,6 +29,68 @@ pub record Fits (a : List ℕ) (x : Scanner) (p o : List ℕ) : Type 0 where
   pub piece : length p ≤ 65536
   pub limit : x.taken + length p ≤ 2 ^ 48
   pub output : 1029 ≤ length o
+
+-- ---- whether a call can go on
+
+-- a held area and a scanner with which a call goes on
+pub record InOrder (a : List ℕ) (x : Scanner) : Type 0 where
+  pub area : length a ≡ 1029
+  pub count : x.count ≤ 1029
+  pub held : x.count ≤ x.taken
+  pub taken : x.taken ≤ 2 ^ 48
+  pub mode : x.mode ≤ 1
+
+-- the five tests, with what follows them
+abbrev tested : {A : Type 0} → (c d e f g : Bool) → Told A → Told A
+tested c d e f g later = cond c size (cond d state (cond e state (cond f state (cond g state later))))
+
+abbrev pass : Told (Unit {0})
+pass = Accepted tt
+
+none_true : (c d e f g : Bool) → pass ≡ tested c d e f g pass → (c ≡ false) × (d ≡ false) × (e ≡ false) × (f ≡ false) × (g ≡ false)
+none_true true d e f g h = let z : ◌≡◌ {A = ℕ} 0 1 = cc in absurd (omega arith)
+none_true false true e f g h = let z : ◌≡◌ {A = ℕ} 0 1 = cc in absurd (omega arith)
+none_true false false true f g h = let z : ◌≡◌ {A = ℕ} 0 1 = cc in absurd (omega arith)
+none_true false false false true g h = let z : ◌≡◌ {A = ℕ} 0 1 = cc in absurd (omega arith)
+none_true false false false false true h = let z : ◌≡◌ {A = ℕ} 0 1 = cc in absurd (omega arith)
+none_true false false false false false h = (refl, refl, refl, refl, refl)
+
+-- a test that is true refuses, whatever follows the tests
+first_true : {A B S : Type 0} (s : S) (later : Told B) (onward : B → Outcome A S) (n : ℕ) (cs : List ℕ) (c d e f g : Bool)
+    → Refused n cs ≡ tested c d e f g pass → refusing s (tested c d e f g later) onward ≡ outcome (Refused n cs) s
+first_true s later onward n cs true d e f g h = let i : n ≡ 9 = cc in let j : cs ≡ [] = cc in rw (i, j)
+first_true s later onward n cs false true e f g h = let i : n ≡ 11 = cc in let j : cs ≡ [] = cc in rw (i, j)
+first_true s later onward n cs false false true f g h = let i : n ≡ 11 = cc in let j : cs ≡ [] = cc in rw (i, j)
+first_true s later onward n cs false false false true g h = let i : n ≡ 11 = cc in let j : cs ≡ [] = cc in rw (i, j)
+first_true s later onward n cs false false false false true h = let i : n ≡ 11 = cc in let j : cs ≡ [] = cc in rw (i, j)
+first_true s later onward n cs false false false false false h = let z : ◌≡◌ {A = ℕ} 0 1 = cc in absurd (omega arith)
+
+module _ (a : List ℕ) (x : Scanner) {r : Result (Unit {0}) Refusal} (told : told_order r ≡ order_of a x) where
+  pub in_order : {u : Unit {0}} → r ≡ Ok u → InOrder a x
+  in_order e =
+      let t = none_true (not (eqb (length a) 1029)) (ltb 1029 x.count) (ltb x.taken x.count) (ltb (2 ^ 48) x.taken) (ltb 1 x.mode) (sym (ap told_order e) ∙ told) in
+      record {
+        area = eqb-true (length a) 1029 (not-false (eqb (length a) 1029) t.0);
+        count = ltb-false 1029 x.count t.1;
+        held = ltb-false x.taken x.count t.2;
+        taken = ltb-false (2 ^ 48) x.taken t.3;
+        mode = ltb-false 1 x.mode t.4;
+      }
+
+  -- a refusal is that of these tests, whatever follows them
+  module _ {A B S : Type 0} (s : S) (later : Told B) (onward : B → Outcome A S) where
+    pub refused_first : {e : Refusal} → r ≡ Err e
+        → refusing s
+        (cond (not (eqb (length a) 1029)) size (cond (ltb 1029 x.count) state (cond (ltb x.taken x.count) state (cond (ltb (2 ^ 48) x.taken) state (cond (ltb 1 x.mode) state later)))))
+        onward ≡ outcome (Refused (number_of e) (carried_by e)) s
+    refused_first {e} g =
+        first_true s later onward (number_of e) (carried_by e)
+        (not (eqb (length a) 1029)) (ltb 1029 x.count) (ltb x.taken x.count) (ltb (2 ^ 48) x.taken) (ltb 1 x.mode) (sym (ap told_order g) ∙ told)
+
+  -- and so that of the call
+  pub out_of_order : {W K : Type 0} (F : Framing W K) (p o : List ℕ) {e : Refusal} → r ≡ Err e → feed_of F a x p o ≡ outcome (Refused (number_of e) (carried_by e)) (a, o)
+  unfolding feed_of
+  out_of_order F p o g = refused_first (a, o) _ (λ h. called (feed (decide F) h p) x a o) g
 
 module _ {K : Type 0} (areas : List ℕ × List ℕ) (onward : List ℕ → FedOutcome K) (y : FedOutcome K) (r : FedAnswer K) (ans : y.answer ≡ Accepted r) where
   -- State, on any of its four grounds

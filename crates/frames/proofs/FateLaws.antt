@@ -10,8 +10,11 @@ use lib.ListN.{length, get_or, take, drop, length-drop}
 use lib.Seq.{drop-drop, take_all, length-take-le, get_or-drop}
 use lib.Dec.{leb, eqb}
 use borrow.Author.Tests.{lt-ltb, le-ltb, le-leb, lt-leb, leb-true, eq-eqb, ne_eqb, eqb-false}
-use Rattle.bits.specs.Told.{Told, Accepted, Refused, size, bad_check, OneToOne}
-use Rattle.bits.proofs.ToldLaws.{found_again}
+use Rattle.std.specs.Prelude.{Result, Err}
+use Rattle.bits.specs.Told.{Told, Accepted, size, bad_check, OneToOne}
+use Rattle.bits.specs.declared.refusal.Refusal.{Refusal}
+use Rattle.bits.specs.declared.refusal.Refusal.TheVariants as R
+use Rattle.bits.proofs.RefusalLaws.{told_one_to_one}
 use Rattle.frames.specs.Scan.{Decision, Skip, Take, Wait, Item, Skipped, Framed, Scanned, scan, frames_of}
 use Rattle.frames.specs.Framing.{decide}
 use Rattle.frames.specs.Frame.{data_length, sent_sum, own_sum, Whole, check}
@@ -20,16 +23,15 @@ use Rattle.frames.specs.Rtcm.{Why, Kind, Rtcm, rtcm}
 use Rattle.frames.specs.Walk as walk
 use Rattle.frames.specs.Walk.{cut}
 use Rattle.frames.specs.Answers.{told_checked}
-use Rattle.frames.specs.Fate.{Fate, InFrame, NotD3, BadCheck, Held, skipped_fate, fate_in, fate_on, fate_of, told_fate}
+use Rattle.frames.specs.Fate.{Fate, InFrame, NotD3, BadCheck, Held, skipped_fate, fate_in, fate_on, fate_of, known_fate, told_fate}
 use Rattle.frames.specs.declared.fate.Fate as code
 use Rattle.frames.specs.declared.fate.Fate.TheVariants as F
-use Rattle.frames.specs.declared.frame.Checked.{Checked}
-use Rattle.frames.specs.declared.frame.Checked.TheVariants as C
+use Rattle.frames.specs.declared.frame.Frame as code_frame
 use Rattle.frames.proofs.FramingLaws.{decides}
 use Rattle.frames.proofs.FrameLaws.{sums_differ}
 use Rattle.frames.proofs.RtcmLaws.{rtcm_lawful}
 use Rattle.frames.proofs.StandLaws.{Stands, stands}
-use Rattle.frames.proofs.ToldLaws.{checked_one_to_one}
+use Rattle.frames.proofs.ToldLaws.{injective, checked_one_to_one}
 use Rattle.frames.proofs.WalkLaws.{Stops, Finds}
 
 -- ---- which case of the definition holds
@@ -175,47 +177,51 @@ module _ (s : List ℕ) (q : ℕ) (w : Why) (e : decide rtcm (drop q s) ≡ Skip
   first : get_or (drop q s) 0 0 ≡ get_or s q 0
   first = get_or-drop q s 0 0 ∙ ap (λ k. get_or s k 0) (add-zero q)
 
-  pub tells_not_d3 : (get_or s q 0 ≡ 0xD3 → ⊥) → Accepted (NotD3 q) ≡ Accepted (skipped_fate q w)
-  tells_not_d3 d = ap (λ v. Accepted (skipped_fate q v)) (sym (not_d3 (drop q s) w (λ z. d (sym first ∙ z)) e))
+  pub tells_not_d3 : (get_or s q 0 ≡ 0xD3 → ⊥) → NotD3 q ≡ skipped_fate q w
+  tells_not_d3 d = ap (skipped_fate q) (sym (not_d3 (drop q s) w (λ z. d (sym first ∙ z)) e))
 
-  module _ (d : get_or s q 0 ≡ 0xD3) (r : Checked) (c : told_checked r ≡ check (drop q s)) where
+  module _ (d : get_or s q 0 ≡ 0xD3) (r : Result code_frame.Frame Refusal) (c : told_checked r ≡ check (drop q s)) where
     sums : Sums (drop q s) w
     sums = at_d3_lem (drop q s) w (first ∙ d) e
 
-    answer : r ≡ C.BadCheck (sent_sum (drop q s)) (own_sum (drop q s))
+    answer : r ≡ Err (R.BadCheck (sent_sum (drop q s)) (own_sum (drop q s)))
     answer = checked_one_to_one.same (c ∙ sym sums.0)
 
-    pub tells_sums : {a b : ℕ} → r ≡ C.BadCheck a b → Accepted (BadCheck q a b) ≡ Accepted (skipped_fate q w)
-    tells_sums {a} {b} g =
-        let y : C.BadCheck a b ≡ C.BadCheck (sent_sum (drop q s)) (own_sum (drop q s)) = sym g ∙ answer in
+    refusal : {e : Refusal} → r ≡ Err e → e ≡ R.BadCheck (sent_sum (drop q s)) (own_sum (drop q s))
+    refusal {e} g = let y : ◌≡◌ {A = Result code_frame.Frame Refusal} (Err e) (Err (R.BadCheck (sent_sum (drop q s)) (own_sum (drop q s)))) = sym g ∙ answer in cc
+
+    pub tells_sums : {e : Refusal} {a b : ℕ} → r ≡ Err e → e ≡ R.BadCheck a b → BadCheck q a b ≡ skipped_fate q w
+    tells_sums {e} {a} {b} g h =
+        let y : R.BadCheck a b ≡ R.BadCheck (sent_sum (drop q s)) (own_sum (drop q s)) = sym h ∙ refusal g in
         let ya : a ≡ sent_sum (drop q s) = cc in
         let yb : b ≡ own_sum (drop q s) = cc in
         rw (sums.1, ya, yb)
 
     -- and nothing else is answered
-    pub no_other : ((a b : ℕ) → r ≡ C.BadCheck a b → ⊥) → ⊥
-    no_other o = o (sent_sum (drop q s)) (own_sum (drop q s)) answer
+    pub no_frame : ((e : Refusal) → r ≡ Err e → ⊥) → ⊥
+    no_frame o = o _ answer
+
+    pub no_other : {e : Refusal} → r ≡ Err e → ((a b : ℕ) → e ≡ R.BadCheck a b → ⊥) → ⊥
+    no_other g o = o (sent_sum (drop q s)) (own_sum (drop q s)) (refusal g)
 
 -- ---- an answer of the code is fixed by what it tells
 
-fate : Told Fate → code.Fate
-fate (Accepted (InFrame p l)) = F.InFrame p l
-fate (Accepted (NotD3 p)) = F.NotD3 p
-fate (Accepted (BadCheck p a b)) = F.BadCheck p a b
-fate (Accepted (Held p l)) = F.Held p l
-fate (Refused n carried) = F.Size
+fate : Fate → code.Fate
+fate (InFrame p l) = F.InFrame p l
+fate (NotD3 p) = F.NotD3 p
+fate (BadCheck p a b) = F.BadCheck p a b
+fate (Held p l) = F.Held p l
 
-fate_again : (x : code.Fate) → fate (told_fate x) ≡ x
+fate_again : (x : code.Fate) → fate (known_fate x) ≡ x
 unfolding fate
 fate_again (F.InFrame p l) = refl
 fate_again (F.NotD3 p) = refl
 fate_again (F.BadCheck p a b) = refl
 fate_again (F.Held p l) = refl
-fate_again F.Size = refl
 
 pub fate_one_to_one : OneToOne told_fate
-fate_one_to_one = found_again told_fate fate fate_again
+fate_one_to_one = told_one_to_one known_fate (injective known_fate fate fate_again)
 
 -- two answers that the statement of `fate::of` allows are equal
-pub only_fate : (s : List ℕ) (q : ℕ) {x y : code.Fate} → told_fate x ≡ fate_of s q → told_fate y ≡ fate_of s q → x ≡ y
+pub only_fate : (s : List ℕ) (q : ℕ) {x y : Result code.Fate Refusal} → told_fate x ≡ fate_of s q → told_fate y ≡ fate_of s q → x ≡ y
 only_fate s q e f = fate_one_to_one.same (e ∙ sym f)

@@ -17,15 +17,15 @@ use Rattle.frames.specs.Framing.{Framing, Lawful, decide}
 use Rattle.frames.specs.Frame.{Whole, check}
 use Rattle.frames.specs.Rtcm.{rtcm}
 use Rattle.frames.specs.Modes.{framing_of}
-use Rattle.frames.specs.Answers.{told_number, told_checked}
+use Rattle.std.specs.Prelude.{Result, Ok}
+use Rattle.bits.specs.declared.refusal.Refusal.{Refusal}
+use Rattle.frames.specs.Answers.{known_frame, told_checked}
 use Rattle.frames.specs.Steps.{Start, candidate}
 use Rattle.frames.specs.Listing.{Found, behind, first_of, starts_of, lengths_of, listing, looked_at, list_of}
 use Rattle.frames.specs.ListSteps.{listed, list_on, Within}
 use Rattle.frames.specs.declared.list.Listing.{Listing}
 use Rattle.frames.specs.declared.scan.Candidate.TheVariants.{Incomplete, NotValid, Good}
-use Rattle.frames.specs.declared.frame.Checked.{Checked}
-use Rattle.frames.specs.declared.frame.Checked.TheVariants.{Frame}
-use Rattle.frames.specs.declared.frame.Number.{Number}
+use Rattle.frames.specs.declared.frame.Frame as code
 use Rattle.frames.proofs.FramingLaws as framing
 use Rattle.frames.proofs.FramingLaws.{enough, short, decides}
 use Rattle.frames.proofs.FeedLaws.{begins_found}
@@ -256,13 +256,12 @@ rtcm_here mode t e = go (dec_lt 0 mode)
     go (yes q) = at_d3_lem mode t (λ z. omega arith) (λ z. omega arith)
     go (no q) = only_rtcm mode t (omega arith)
 
-pub stands_here : (mode : ℕ) (h p : List ℕ) (i : ℕ) → length h ≤ i → i ≤ length h + length p → (r : Checked) → told_checked r ≡ check (take (length p - (i - length h)) (drop (i - length h) p))
-    → (n a : ℕ) (m : Number) (k : ℕ) → r ≡ Frame n a m k → Good n ≡ candidate (framing_of mode) (drop i (h ++ p))
-stands_here mode h p i l u r e n a m k q =
+pub stands_here : (mode : ℕ) (h p : List ℕ) (i : ℕ) → length h ≤ i → i ≤ length h + length p → (r : Result code.Frame Refusal) → told_checked r ≡ check (take (length p - (i - length h)) (drop (i - length h) p))
+    → (f : code.Frame) → r ≡ Ok f → Good f.length ≡ candidate (framing_of mode) (drop i (h ++ p))
+stands_here mode h p i l u r e f q =
     let t : take (length p - (i - length h)) (drop (i - length h) p) ≡ drop i (h ++ p) =
     take_all (length p - (i - length h)) (drop (i - length h) p) (rw length-drop (omega arith)) ∙ sym (drop-append-add h p (i - length h)) ∙ ap (λ k. drop k (h ++ p)) (add-sub_of_le l) in
-    let w : Whole = record { length = n; carried = a; number = told_number m; sum = k } in
-    let g = good_tells (drop i (h ++ p)) w (ap check (sym t) ∙ sym e ∙ ap told_checked q) in
+    let g = good_tells (drop i (h ++ p)) (known_frame f) (ap check (sym t) ∙ sym e ∙ ap told_checked q) in
     ap (λ (v : Whole). Good v.length) g.whole ∙ good (drop i (h ++ p)) g.start g.fits g.sums ∙ rtcm_here mode (drop i (h ++ p)) g.start
 
 -- ---- what it comes to

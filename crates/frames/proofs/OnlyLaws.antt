@@ -1,39 +1,28 @@
 -- For each public function of one frame, of the scan and of the listing: two answers that its statement allows are equal. Assumes nothing.
-use mathlib.Core.Path.{◌≡◌, refl, sym, ap, ◌∙◌}
+use mathlib.Core.Path.{◌≡◌, sym, ap, ◌∙◌}
 use mathlib.Core.List.{List}
-use mathlib.Core.Option.{Option, none, some}
 use Prim.Native.Nat.{ℕ}
+use Rattle.std.specs.Prelude.{Option, Result}
+use Rattle.bits.specs.declared.refusal.Refusal.{Refusal}
 use Rattle.bits.specs.Outcome.{outcome}
 use Rattle.bits.specs.Part.{Lent, lent, within}
 use Rattle.frames.specs.Frame.{number_of, check, frame_part, data_part, inside_part, write_frame}
 use Rattle.frames.specs.Rtcm.{rtcm}
 use Rattle.frames.specs.Walk.{next_from}
 use Rattle.frames.specs.Listing.{list_of}
-use Rattle.frames.specs.Call.{Scanner, fresh, afresh}
-use Rattle.frames.specs.Answers.{told_number, told_checked, told_framed, told_next, known}
-use Rattle.frames.specs.declared.frame.Number.{Number}
-use Rattle.frames.specs.declared.frame.Number.TheVariants as N
-use Rattle.frames.specs.declared.frame.Checked.{Checked}
-use Rattle.frames.specs.declared.frame.Framed.{Framed}
+use Rattle.frames.specs.Call.{Scanner, fresh, afresh, order_of}
+use Rattle.frames.specs.Answers.{told_number, told_checked, told_framed, told_next, told_order, known}
+use Rattle.frames.specs.declared.frame.Frame.{Frame}
 use Rattle.frames.specs.declared.scan.Next.{Next}
 use Rattle.frames.specs.declared.list.Listing.{Listing}
 use Rattle.frames.specs.declared.scanner.Scanner as code
-use Rattle.frames.proofs.ToldLaws.{checked_one_to_one, next_one_to_one, only_framed, only_known}
+use Rattle.frames.proofs.ToldLaws.{number_one_to_one, checked_one_to_one, next_one_to_one, order_one_to_one, only_framed, only_known}
 
-pub only_check : (s : List ℕ) {x y : Checked} → told_checked x ≡ check s → told_checked y ≡ check s → x ≡ y
+pub only_check : (s : List ℕ) {x y : Result Frame Refusal} → told_checked x ≡ check s → told_checked y ≡ check s → x ≡ y
 only_check s e f = checked_one_to_one.same (e ∙ sym f)
 
-numbered : Option ℕ → Number
-numbered none = N.Absent
-numbered (some n) = N.Is n
-
-numbered_again : (x : Number) → numbered (told_number x) ≡ x
-unfolding numbered
-numbered_again N.Absent = refl
-numbered_again (N.Is n) = refl
-
-pub only_number_of : (d : List ℕ) {x y : Number} → told_number x ≡ number_of d → told_number y ≡ number_of d → x ≡ y
-only_number_of d {x} {y} e f = sym (numbered_again x) ∙ ap numbered (e ∙ sym f) ∙ numbered_again y
+pub only_number_of : (d : List ℕ) {x y : Option ℕ} → told_number x ≡ number_of d → told_number y ≡ number_of d → x ≡ y
+only_number_of d {x} {y} e f = number_one_to_one x y (e ∙ sym f)
 
 -- a part that is handed out: where it points, and its bytes
 only_part : (l : Lent) {p q : ℕ × ℕ} {s t : List ℕ} → lent p s ≡ l → lent q t ≡ l → (p ≡ q) × (s ≡ t)
@@ -49,7 +38,7 @@ module _ (at : ℕ × ℕ) (bytes : List ℕ) {p q : ℕ × ℕ} {s t : List ℕ
   pub only_data_of : lent p s ≡ within at (inside_part bytes) → lent q t ≡ within at (inside_part bytes) → (p ≡ q) × (s ≡ t)
   only_data_of = only_part (within at (inside_part bytes))
 
-pub only_write : (d out : List ℕ) {x y : Framed} {s t : List ℕ} → outcome (told_framed x) s ≡ write_frame d out → outcome (told_framed y) t ≡ write_frame d out → (x ≡ y) × (s ≡ t)
+pub only_write : (d out : List ℕ) {x y : Result ℕ Refusal} {s t : List ℕ} → outcome (told_framed x) s ≡ write_frame d out → outcome (told_framed y) t ≡ write_frame d out → (x ≡ y) × (s ≡ t)
 only_write d out = only_framed (write_frame d out)
 
 pub only_next_frame : (s : List ℕ) (from : ℕ) {x y : Next} → told_next x ≡ next_from rtcm s from → told_next y ≡ next_from rtcm s from → x ≡ y
@@ -65,3 +54,6 @@ only_fresh mode = only_known (fresh mode)
 
 pub only_reset : (s : Scanner) {x y : code.Scanner} → known x ≡ afresh s → known y ≡ afresh s → x ≡ y
 only_reset s = only_known (afresh s)
+
+pub only_in_order : (a : List ℕ) (s : Scanner) {x y : Result (Unit {0}) Refusal} → told_order x ≡ order_of a s → told_order y ≡ order_of a s → x ≡ y
+only_in_order a s e f = order_one_to_one.same (e ∙ sym f)

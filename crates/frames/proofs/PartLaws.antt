@@ -8,39 +8,37 @@ use borrow.Author.Tests.{lt-ltb, le-ltb}
 use Rattle.bits.specs.Told.{Told, Accepted}
 use Rattle.bits.specs.Part.{part, within}
 use Rattle.frames.specs.Frame.{data_length, Whole, check, part_of, data_part, inside_part}
-use Rattle.frames.specs.Answers.{told_number, told_checked}
-use Rattle.frames.specs.declared.frame.Number.{Number}
-use Rattle.frames.specs.declared.frame.Checked.{Checked}
-use Rattle.frames.specs.declared.frame.Checked.TheVariants.{Frame, NoPreamble, BadCheck, Incomplete}
+use Rattle.std.specs.Prelude.{Result, Ok, Err}
+use Rattle.bits.specs.declared.refusal.Refusal.{Refusal}
+use Rattle.frames.specs.Answers.{known_frame, told_checked}
+use Rattle.frames.specs.declared.frame.Frame.{Frame}
 use Rattle.frames.proofs.FrameLaws.{length_small, good_tells}
 
 -- a refusal hands out nothing, at the start
-nothing : (i : ℕ) (count : Whole → ℕ) (s : List ℕ) (r : Checked) → ((n l : ℕ) (m : Number) (k : ℕ) → r ≡ Frame n l m k → ⊥) → part 0 0 s ≡ part_of i count (told_checked r) s
-nothing i count s (Frame n l m k) o = absurd (o n l m k refl)
-nothing i count s NoPreamble o = refl
-nothing i count s (BadCheck sent computed) o = refl
-nothing i count s Incomplete o = refl
+nothing : (i : ℕ) (count : Whole → ℕ) (s : List ℕ) (r : Result Frame Refusal) → ((f : Frame) → r ≡ Ok f → ⊥) → part 0 0 s ≡ part_of i count (told_checked r) s
+nothing i count s (Ok f) o = absurd (o f refl)
+nothing i count s (Err e) o = refl
 
-module _ (p : ℕ × ℕ) (s : List ℕ) (r : Checked) (q : told_checked r ≡ check s) where
-  pub refused_part : (i : ℕ) (count : Whole → ℕ) → ((n l : ℕ) (m : Number) (k : ℕ) → r ≡ Frame n l m k → ⊥) → within p (part 0 0 s) ≡ within p (part_of i count (check s) s)
+module _ (p : ℕ × ℕ) (s : List ℕ) (r : Result Frame Refusal) (q : told_checked r ≡ check s) where
+  pub refused_part : (i : ℕ) (count : Whole → ℕ) → ((f : Frame) → r ≡ Ok f → ⊥) → within p (part 0 0 s) ≡ within p (part_of i count (check s) s)
   refused_part i count o = ap (within p) (nothing i count s r o ∙ ap (λ (t : Told Whole). part_of i count t s) q)
 
-  module _ (n l : ℕ) (m : Number) (k : ℕ) (g : r ≡ Frame n l m k) where
-    accepted : check s ≡ Accepted (record { length = n; carried = l; number = told_number m; sum = k })
+  module _ (f : Frame) (g : r ≡ Ok f) where
+    accepted : check s ≡ Accepted (known_frame f)
     accepted = sym q ∙ ap told_checked g
 
-    pub frame_fits : (n ≤ length s) × (l + 3 ≤ length s) × (l ≤ 1023)
+    pub frame_fits : (f.length ≤ length s) × (f.«data» + 3 ≤ length s) × (f.«data» ≤ 1023)
     frame_fits =
         let t = good_tells s _ accepted in
-        let a : n ≡ data_length s + 6 = ap (λ (w : Whole). w.length) t.whole in
-        let b : l ≡ data_length s = ap (λ (w : Whole). w.carried) t.whole in
+        let a : f.length ≡ data_length s + 6 = ap (λ (w : Whole). w.length) t.whole in
+        let b : f.«data» ≡ data_length s = ap (λ (w : Whole). w.carried) t.whole in
         (omega arith, omega arith, omega (arith, length_small s))
 
     -- the part from place i up to place e, where that are as many bytes as the answer says
-    pub accepted_part : (i e : ℕ) (count : Whole → ℕ) → e ≡ count (record { length = n; carried = l; number = told_number m; sum = k }) + i
+    pub accepted_part : (i e : ℕ) (count : Whole → ℕ) → e ≡ count (known_frame f) + i
         → within p (part i (e - i) s) ≡ within p (part_of i count (check s) s)
     accepted_part i e count h =
-        let d : e - i ≡ count (record { length = n; carried = l; number = told_number m; sum = k }) = omega arith in
+        let d : e - i ≡ count (known_frame f) = omega arith in
         ap (within p) (ap (λ (c : ℕ). part i c s) d ∙ ap (λ (t : Told Whole). part_of i count t s) (sym accepted))
 
 -- ---- the part of bytes that are known to be a frame

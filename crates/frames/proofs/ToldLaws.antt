@@ -1,15 +1,16 @@
 -- An answer of the code is fixed by what it tells, and so by a statement. Assumes nothing.
 use mathlib.Core.Path.{◌≡◌, refl, sym, ap, ◌∙◌}
-use mathlib.Core.Bool.{cond}
 use mathlib.Core.List.{List}
-use mathlib.Core.Option.{Option, none, some}
+use mathlib.Core.Option as maybe
+use mathlib.Core.Option.{none, some}
 use Prim.Native.Nat.{ℕ}
-use lib.Dec.{eqb}
-use lib.ListN.{get_or}
+use Rattle.std.specs.Prelude.{Option, Some, None, Result}
 use Rattle.bits.specs.Told.{Told, Accepted, Refused, OneToOne}
+use Rattle.bits.specs.declared.refusal.Refusal.{Refusal}
 use Rattle.bits.specs.Outcome.{Outcome, outcome}
 use Rattle.bits.proofs.OutcomeLaws.{only_outcome}
 use Rattle.bits.proofs.ToldLaws.{found_again}
+use Rattle.bits.proofs.RefusalLaws.{told_one_to_one}
 use Rattle.frames.specs.Frame.{Whole}
 use Rattle.frames.specs.Call as call
 use Rattle.frames.specs.Call.{Scanner, FedAnswer, FedOutcome}
@@ -18,13 +19,8 @@ use Rattle.frames.specs.Close.{ClosedAnswer}
 use Rattle.frames.specs.Rtcm.{Kind, Rtcm, Ubx}
 use Rattle.frames.specs.Walk as walk
 use Rattle.frames.specs.Walk.{Place}
-use Rattle.frames.specs.Answers.{told_checked, told_framed, told_next, known, told_fed, told_closed}
-use Rattle.frames.specs.declared.frame.Number.{Number}
-use Rattle.frames.specs.declared.frame.Number.TheVariants as N
-use Rattle.frames.specs.declared.frame.Checked.{Checked}
-use Rattle.frames.specs.declared.frame.Checked.TheVariants as C
-use Rattle.frames.specs.declared.frame.Framed.{Framed}
-use Rattle.frames.specs.declared.frame.Framed.TheVariants as F
+use Rattle.frames.specs.Answers.{told_number, known_frame, told_checked, told_framed, told_next, known, known_fed, told_order, told_fed, known_closed, told_closed}
+use Rattle.frames.specs.declared.frame.Frame.{Frame}
 use Rattle.frames.specs.declared.scan.Next.{Next}
 use Rattle.frames.specs.declared.scan.Next.TheVariants as X
 use Rattle.frames.specs.declared.scanner.Scanner as code
@@ -35,44 +31,41 @@ use Rattle.frames.specs.declared.scanner.Fed.TheVariants as D
 use Rattle.frames.specs.declared.close.Closed.{Closed}
 use Rattle.frames.specs.declared.close.Closed.TheVariants as E
 
+-- values that can be found again from what they tell are told one to one
+pub injective : {T A : Type 0} (value : T → A) (again : A → T) → ((x : T) → again (value x) ≡ x) → (x y : T) → value x ≡ value y → x ≡ y
+injective value again r x y e = sym (r x) ∙ ap again e ∙ r y
+
 -- ---- the frame check
 
-number : Option ℕ → Number
-number none = N.Absent
-number (some n) = N.Is n
+number : maybe.Option ℕ → Option ℕ
+number none = None
+number (some n) = Some n
 
-checked : Told Whole → Checked
-checked (Accepted w) = C.Frame w.length w.carried (number w.number) w.sum
-checked (Refused n carried) = cond (eqb n 10) C.NoPreamble (cond (eqb n 14) (C.BadCheck (get_or carried 0 0) (get_or carried 1 0)) C.Incomplete)
+number_again : (x : Option ℕ) → number (told_number x) ≡ x
+unfolding number
+number_again None = refl
+number_again (Some n) = refl
 
-checked_again : (x : Checked) → checked (told_checked x) ≡ x
-unfolding checked number
-checked_again (C.Frame n l N.Absent c) = refl
-checked_again (C.Frame n l (N.Is m) c) = refl
-checked_again C.NoPreamble = refl
-checked_again (C.BadCheck sent computed) = refl
-checked_again C.Incomplete = refl
+pub number_one_to_one : (x y : Option ℕ) → told_number x ≡ told_number y → x ≡ y
+number_one_to_one = injective told_number number number_again
+
+frame : Whole → Frame
+frame w = record { length = w.length; «data» = w.carried; number = number w.number; sum = w.sum }
+
+frame_again : (x : Frame) → frame (known_frame x) ≡ x
+unfolding frame
+frame_again x = ap (λ m. record { length = x.length; «data» = x.«data»; number = m; sum = x.sum }) (number_again x.number)
 
 pub checked_one_to_one : OneToOne told_checked
-checked_one_to_one = found_again told_checked checked checked_again
+checked_one_to_one = told_one_to_one known_frame (injective known_frame frame frame_again)
 
 -- ---- framing
 
-framed : Told ℕ → Framed
-framed (Accepted n) = F.Length n
-framed (Refused n carried) = cond (eqb n 9) F.Size (F.Room (get_or carried 0 0))
-
-framed_again : (x : Framed) → framed (told_framed x) ≡ x
-unfolding framed
-framed_again (F.Length n) = refl
-framed_again F.Size = refl
-framed_again (F.Room n) = refl
-
 pub framed_one_to_one : OneToOne told_framed
-framed_one_to_one = found_again told_framed framed framed_again
+framed_one_to_one = told_one_to_one (λ n. n) (λ x y e. e)
 
 -- and the outputs that two runs leave are equal too
-pub only_framed : (d : Outcome ℕ (List ℕ)) {x y : Framed} {s t : List ℕ} → outcome (told_framed x) s ≡ d → outcome (told_framed y) t ≡ d → (x ≡ y) × (s ≡ t)
+pub only_framed : (d : Outcome ℕ (List ℕ)) {x y : Result ℕ Refusal} {s t : List ℕ} → outcome (told_framed x) s ≡ d → outcome (told_framed y) t ≡ d → (x ≡ y) × (s ≡ t)
 only_framed d = only_outcome told_framed framed_one_to_one d
 
 -- ---- the scan
@@ -100,26 +93,25 @@ kind : Kind → kinds.Kind
 kind Rtcm = Q.Rtcm
 kind Ubx = Q.Ubx
 
-fed : Told (FedAnswer Kind) → Fed
-fed (Accepted (call.More t s x)) = D.More t s (scanner x)
-fed (Accepted (call.Frame l t s i k x)) = D.Frame l t s i (kind k) (scanner x)
-fed (Refused n carried) = cond (eqb n 9) D.Size (cond (eqb n 11) D.State (D.Room (get_or carried 0 0)))
+fed : FedAnswer Kind → Fed
+fed (call.More t s x) = D.More t s (scanner x)
+fed (call.Frame l t s i k x) = D.Frame l t s i (kind k) (scanner x)
 
-fed_again : (x : Fed) → fed (told_fed x) ≡ x
+fed_again : (x : Fed) → fed (known_fed x) ≡ x
 unfolding fed scanner kind
 fed_again (D.More t s x) = refl
 fed_again (D.Frame l t s i Q.Rtcm x) = refl
 fed_again (D.Frame l t s i Q.Ubx x) = refl
-fed_again D.Size = refl
-fed_again D.State = refl
-fed_again (D.Room n) = refl
 
 pub fed_one_to_one : OneToOne told_fed
-fed_one_to_one = found_again told_fed fed fed_again
+fed_one_to_one = told_one_to_one known_fed (injective known_fed fed fed_again)
 
 -- and the held areas and outputs that two runs leave are equal too
-pub only_fed : (d : FedOutcome Kind) {x y : Fed} {s t : List ℕ × List ℕ} → outcome (told_fed x) s ≡ d → outcome (told_fed y) t ≡ d → (x ≡ y) × (s ≡ t)
+pub only_fed : (d : FedOutcome Kind) {x y : Result Fed Refusal} {s t : List ℕ × List ℕ} → outcome (told_fed x) s ≡ d → outcome (told_fed y) t ≡ d → (x ≡ y) × (s ≡ t)
 only_fed d = only_outcome told_fed fed_one_to_one d
+
+pub order_one_to_one : OneToOne told_order
+order_one_to_one = told_one_to_one (λ u. u) (λ x y e. e)
 
 -- two scanners that know the same are the same
 pub only_known : (d : Scanner) {x y : code.Scanner} → known x ≡ d → known y ≡ d → x ≡ y
@@ -128,23 +120,19 @@ only_known d {x} {y} e f = ap scanner (e ∙ sym f)
 
 -- ---- closing
 
-closed : Told (ClosedAnswer Kind) → Closed
-closed (Accepted (close.Done s x)) = E.Done s (scanner x)
-closed (Accepted (close.Frame l s i k x)) = E.Frame l s i (kind k) (scanner x)
-closed (Refused n carried) = cond (eqb n 9) E.Size (cond (eqb n 11) E.State (E.Room (get_or carried 0 0)))
+closed : ClosedAnswer Kind → Closed
+closed (close.Done s x) = E.Done s (scanner x)
+closed (close.Frame l s i k x) = E.Frame l s i (kind k) (scanner x)
 
-closed_again : (x : Closed) → closed (told_closed x) ≡ x
+closed_again : (x : Closed) → closed (known_closed x) ≡ x
 unfolding closed scanner kind
 closed_again (E.Done s x) = refl
 closed_again (E.Frame l s i Q.Rtcm x) = refl
 closed_again (E.Frame l s i Q.Ubx x) = refl
-closed_again E.Size = refl
-closed_again E.State = refl
-closed_again (E.Room n) = refl
 
 pub closed_one_to_one : OneToOne told_closed
-closed_one_to_one = found_again told_closed closed closed_again
+closed_one_to_one = told_one_to_one known_closed (injective known_closed closed closed_again)
 
 -- and the held areas and outputs that two runs leave are equal too
-pub only_closed : (d : Outcome (ClosedAnswer Kind) (List ℕ × List ℕ)) {x y : Closed} {s t : List ℕ × List ℕ} → outcome (told_closed x) s ≡ d → outcome (told_closed y) t ≡ d → (x ≡ y) × (s ≡ t)
+pub only_closed : (d : Outcome (ClosedAnswer Kind) (List ℕ × List ℕ)) {x y : Result Closed Refusal} {s t : List ℕ × List ℕ} → outcome (told_closed x) s ≡ d → outcome (told_closed y) t ≡ d → (x ≡ y) × (s ≡ t)
 only_closed d = only_outcome told_closed closed_one_to_one d

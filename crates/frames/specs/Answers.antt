@@ -1,7 +1,10 @@
 -- What each answer of the code tells. Assumes nothing.
-use Rattle.std.proofs.Math.Option.{Option, none, some}
-use Rattle.std.specs.Prelude.{ℕ}
-use Rattle.bits.specs.Told.{Told, Accepted, size, room, no_preamble, bad_check, incomplete, state}
+use Rattle.std.proofs.Math.Option as maybe
+use Rattle.std.proofs.Math.Option.{none, some}
+use Rattle.std.specs.Prelude.{ℕ, Option, Some, None, Result}
+use Rattle.bits.specs.Told.{Told, Accepted}
+use Rattle.bits.specs.Refusals.{told}
+use Rattle.bits.specs.declared.refusal.Refusal.{Refusal}
 use Rattle.frames.specs.Frame.{Whole}
 use Rattle.frames.specs.Call as call
 use Rattle.frames.specs.Call.{Scanner, FedAnswer}
@@ -10,12 +13,7 @@ use Rattle.frames.specs.Close.{ClosedAnswer}
 use Rattle.frames.specs.Rtcm.{Kind, Rtcm, Ubx}
 use Rattle.frames.specs.Walk as walk
 use Rattle.frames.specs.Walk.{Place}
-use Rattle.frames.specs.declared.frame.Number.{Number}
-use Rattle.frames.specs.declared.frame.Number.TheVariants as N
-use Rattle.frames.specs.declared.frame.Checked.{Checked}
-use Rattle.frames.specs.declared.frame.Checked.TheVariants as C
-use Rattle.frames.specs.declared.frame.Framed.{Framed}
-use Rattle.frames.specs.declared.frame.Framed.TheVariants as F
+use Rattle.frames.specs.declared.frame.Frame.{Frame}
 use Rattle.frames.specs.declared.scan.Next.{Next}
 use Rattle.frames.specs.declared.scan.Next.TheVariants as X
 use Rattle.frames.specs.declared.scanner.Scanner as code
@@ -27,22 +25,20 @@ use Rattle.frames.specs.declared.close.Closed.{Closed}
 use Rattle.frames.specs.declared.close.Closed.TheVariants as E
 
 -- the message number, or that there is none
-abbrev pub told_number : Number → Option ℕ
-told_number N.Absent = none
-told_number (N.Is n) = some n
+abbrev pub told_number : Option ℕ → maybe.Option ℕ
+told_number None = none
+told_number (Some n) = some n
 
 -- the frame check: a good frame, or NoPreamble, BadCheck with the checksums sent and computed, Incomplete
-abbrev pub told_checked : Checked → Told Whole
-told_checked (C.Frame n l m c) = Accepted (record { length = n; carried = l; number = told_number m; sum = c })
-told_checked C.NoPreamble = no_preamble
-told_checked (C.BadCheck sent computed) = bad_check sent computed
-told_checked C.Incomplete = incomplete
+abbrev pub known_frame : Frame → Whole
+known_frame f = record { length = f.length; carried = f.«data»; number = told_number f.number; sum = f.sum }
+
+abbrev pub told_checked : Result Frame Refusal → Told Whole
+told_checked r = told known_frame r
 
 -- framing: the frame's length, or Size, Room with that length
-abbrev pub told_framed : Framed → Told ℕ
-told_framed (F.Length n) = Accepted n
-told_framed F.Size = size
-told_framed (F.Room n) = room n
+abbrev pub told_framed : Result ℕ Refusal → Told ℕ
+told_framed r = told (λ n. n) r
 
 -- the scan from a place on: a frame's place and length, or the place from which on the bytes are held
 abbrev pub told_next : Next → Told Place
@@ -58,18 +54,22 @@ abbrev pub told_kind : kinds.Kind → Kind
 told_kind Q.Rtcm = Rtcm
 told_kind Q.Ubx = Ubx
 
+-- whether a scanner and its held area are in order, or Size, State
+abbrev pub told_order : Result (Unit {0}) Refusal → Told (Unit {0})
+told_order r = told (λ u. u) r
+
 -- a call of the scanner: More or a frame, or Size, State, Room with 1,029
-abbrev pub told_fed : Fed → Told (FedAnswer Kind)
-told_fed (D.More t s x) = Accepted (call.More t s (known x))
-told_fed (D.Frame l t s i k x) = Accepted (call.Frame l t s i (told_kind k) (known x))
-told_fed D.Size = size
-told_fed D.State = state
-told_fed (D.Room n) = room n
+abbrev pub known_fed : Fed → FedAnswer Kind
+known_fed (D.More t s x) = call.More t s (known x)
+known_fed (D.Frame l t s i k x) = call.Frame l t s i (told_kind k) (known x)
+
+abbrev pub told_fed : Result Fed Refusal → Told (FedAnswer Kind)
+told_fed r = told known_fed r
 
 -- a closing call: Done or a frame, or Size, State, Room with 1,029
-abbrev pub told_closed : Closed → Told (ClosedAnswer Kind)
-told_closed (E.Done s x) = Accepted (close.Done s (known x))
-told_closed (E.Frame l s i k x) = Accepted (close.Frame l s i (told_kind k) (known x))
-told_closed E.Size = size
-told_closed E.State = state
-told_closed (E.Room n) = room n
+abbrev pub known_closed : Closed → ClosedAnswer Kind
+known_closed (E.Done s x) = close.Done s (known x)
+known_closed (E.Frame l s i k x) = close.Frame l s i (told_kind k) (known x)
+
+abbrev pub told_closed : Result Closed Refusal → Told (ClosedAnswer Kind)
+told_closed r = told known_closed r

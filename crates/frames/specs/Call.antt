@@ -43,6 +43,16 @@ called (fed.More t is g) x a o = outcome (Accepted (More t (length is) (onwards 
 called (fed.Frame t is k f g) x a o =
     outcome (Accepted (Frame (length f) t (length is) (held_from x + length is) k (onwards x t (length g)))) (onto g a, onto f o)
 
+-- Whether a call can go on with this held area and scanner, by the first refusals of a call.
+abbrev pub order_of : List ℕ → Scanner → Told (Unit {0})
+order_of area x =
+    cond (not (eqb (length area) 1029)) size
+    (cond (ltb 1029 x.count) state
+    (cond (ltb x.taken x.count) state
+    (cond (ltb (2 ^ 48) x.taken) state
+    (cond (ltb 1 x.mode) state
+    (Accepted tt)))))
+
 -- The held bytes of a call with this held area, scanner, piece and output; or its refusal, in their order. State: over 1,029 bytes held, more held than taken, over 2^48 taken, a mode that there is not.
 abbrev pub held_of : List ℕ → Scanner → List ℕ → List ℕ → Told (List ℕ)
 held_of area x piece out =

@@ -1,6 +1,8 @@
 -- What became of a byte of a recording: read off the items of the whole-stream scan. Assumes nothing.
-use Rattle.std.specs.Prelude.{cond, List, ℕ, length, ltb, leb}
+use Rattle.std.specs.Prelude.{cond, List, ℕ, length, ltb, leb, Result}
 use Rattle.bits.specs.Told.{Told, Accepted, size}
+use Rattle.bits.specs.Refusals.{told}
+use Rattle.bits.specs.declared.refusal.Refusal.{Refusal}
 use Rattle.frames.specs.Scan.{Item, Scanned, scan}
 use Rattle.frames.specs.Framing.{decide}
 use Rattle.frames.specs.Became.{Became, In, Dropped, Waiting, became_in}
@@ -44,9 +46,11 @@ fate_of s q =
     (Accepted (fate_on 0 (scan (decide rtcm) s) q)))
 
 -- what the answer of the code tells
-abbrev pub told_fate : code.Fate → Told Fate
-told_fate (F.InFrame p l) = Accepted (InFrame p l)
-told_fate (F.NotD3 p) = Accepted (NotD3 p)
-told_fate (F.BadCheck p a b) = Accepted (BadCheck p a b)
-told_fate (F.Held p l) = Accepted (Held p l)
-told_fate F.Size = size
+abbrev pub known_fate : code.Fate → Fate
+known_fate (F.InFrame p l) = InFrame p l
+known_fate (F.NotD3 p) = NotD3 p
+known_fate (F.BadCheck p a b) = BadCheck p a b
+known_fate (F.Held p l) = Held p l
+
+abbrev pub told_fate : Result code.Fate Refusal → Told Fate
+told_fate r = told known_fate r

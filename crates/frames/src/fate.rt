@@ -1,18 +1,17 @@
 // Why a byte of a recording is where it is: in a frame, skipped, or held at the end.
 ghost use Rattle.std.specs.Prelude.{◌≡◌, ◌<◌, length, drop};
-ghost use Rattle.bits.specs.Told.{Accepted};
 ghost use Rattle.frames.specs.Scan.{Skip, scan};
 ghost use Rattle.frames.specs.Framing.{decide};
 ghost use Rattle.frames.specs.Rtcm.{Why, rtcm};
-ghost use Rattle.frames.specs.Fate.{skipped_fate, fate_on, fate_of, told_fate};
+ghost use Rattle.frames.specs.Fate.{skipped_fate, fate_on, fate_of, known_fate, told_fate};
 
-use crate::frame::Checked;
 use crate::scan::Next;
 use crate::{frame, scan};
+use bits::refusal::Refusal;
 
 // What became of a byte: it is part of the frame of so many bytes at a place; it is not D3, and skipped; it is a D3 whose
-// checksum was wrong, and skipped; or it is held, from the unfinished candidate at a place to the end. Or a refusal.
-#[derive(Clone, Copy)]
+// checksum was wrong, and skipped; or it is held, from the unfinished candidate at a place to the end.
+#[derive(Clone, Copy, Debug, PartialEq, Eq)]
 pub enum Fate {
     InFrame {
         place: usize,
@@ -28,26 +27,26 @@ pub enum Fate {
         place: usize,
         length: usize,
     },
-    Size,
 }
 
-// What the whole-stream scan of a recording makes of the byte at a place.
-pub fn of(recording: &[u8], place: usize) -> Fate
+// What the whole-stream scan of a recording makes of the byte at a place. Size is a recording above 65,536 bytes, or no
+// such byte.
+pub fn of(recording: &[u8], place: usize) -> Result<Fate, Refusal>
     ensures { told_fate result ≡ fate_of recording.now place }
 {
     if 65536 < recording.len() {
-        return Fate::Size;
+        return Err(Refusal::Size);
     }
     if recording.len() <= place {
-        return Fate::Size;
+        return Err(Refusal::Size);
     }
-    walk(recording, place)
+    Ok(walk(recording, place))
 }
 
 // Goes from frame to frame until the byte is reached or passed.
 fn walk(recording: &[u8], place: usize) -> Fate
     requires { place < length recording.now }
-    ensures { told_fate result ≡ Accepted (fate_on 0 (scan (decide rtcm) recording.now) place) }
+    ensures { known_fate result ≡ fate_on 0 (scan (decide rtcm) recording.now) place }
 {
     let mut from: usize = 0;
     loop {
@@ -83,13 +82,15 @@ fn walk(recording: &[u8], place: usize) -> Fate
 // Why the scan skips the byte at a place, where it does.
 fn skipped(recording: &[u8], place: usize) -> Fate
     requires { place < length recording.now }
-    ensures { (w : Why) → decide rtcm (drop place recording.now) ≡ Skip w → told_fate result ≡ Accepted (skipped_fate place w) }
+    ensures { (w : Why) → decide rtcm (drop place recording.now) ≡ Skip w → known_fate result ≡ skipped_fate place w }
 {
     if recording[place] != 0xD3 {
         return Fate::NotD3(place);
     }
-    let Checked::BadCheck { sent, computed } = frame::check(&recording[place..recording.len()])
-    else {
+    let Err(refusal) = frame::check(&recording[place..recording.len()]) else {
+        return Fate::NotD3(place);
+    };
+    let Refusal::BadCheck { sent, computed } = refusal else {
         return Fate::NotD3(place);
     };
     Fate::BadCheck {

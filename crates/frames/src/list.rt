@@ -1,5 +1,5 @@
 // All frames of the held bytes with a piece behind them, listed in one walk: where each starts and how long it is.
-ghost use Rattle.std.specs.Prelude.{◌≡◌, ◌++◌, ◌+◌, ◌-◌, ◌^◌, ◌≤◌, ◌<◌, length, drop};
+ghost use Rattle.std.specs.Prelude.{◌≡◌, ◌++◌, ◌+◌, ◌-◌, ◌^◌, ◌≤◌, ◌<◌, length, drop, IfSome};
 ghost use Rattle.frames.specs.Scan.{scan};
 ghost use Rattle.frames.specs.Framing.{decide};
 ghost use Rattle.frames.specs.Modes.{framing_of};
@@ -8,7 +8,6 @@ ghost use Rattle.frames.specs.declared.scan.Candidate.TheVariants.{Good};
 ghost use Rattle.frames.specs.Listing.{list_of};
 ghost use Rattle.frames.specs.ListSteps.{listed, list_on, Sizes, Within};
 
-use crate::frame::Checked;
 use crate::scan::Candidate;
 use crate::{frame, list_many, scan};
 
@@ -33,9 +32,9 @@ pub fn frames_across(
 ) -> Listing
     ensures { (result, starts.new, lengths.new) ≡ list_of mode held.now piece.now starts.old lengths.old }
 {
-    let h = scan::least(held.len(), 1029);
-    let n = scan::least(piece.len(), 65536);
-    let room = scan::least(starts.len(), lengths.len());
+    let h = held.len().min(1029);
+    let n = piece.len().min(65536);
+    let room = starts.len().min(lengths.len());
     list_plain(&held[0..h], &piece[0..n], mode, room, starts, lengths)
 }
 
@@ -102,35 +101,32 @@ fn list_run(
     ensures { Within (length held.now + length piece.now) places result × (list_on (places - result.count) result.count result.stop result.framed (scan (decide (framing_of mode)) (drop result.stop (held.now ++ piece.now))).items starts.new lengths.new ≡ list_on (places - reached.count) reached.count reached.stop reached.framed (scan (decide (framing_of mode)) (drop reached.stop (held.now ++ piece.now))).items starts.old lengths.old) × (reached.stop ≤ result.stop) }
 {
     let mut i = reached.stop;
-    let mut k = reached.count;
     let mut framed = reached.framed;
-    while k < places {
-        let n = frame_here(held, piece, i, mode);
-        if n == 0 {
+    for k in reached.count..places {
+        let Some(n) = frame_here(held, piece, i, mode) else {
             return ended(k, i, framed, false);
-        }
+        };
         starts[k] = i as u32;
         lengths[k] = n as u32;
         framed += n;
-        k += 1;
         i += n;
     }
-    ended(k, i, framed, false)
+    ended(places, i, framed, false)
 }
 
-// The length of the frame of RTCM that stands at place i, wholly in the piece; or 0.
-fn frame_here(held: &[u8], piece: &[u8], i: usize, mode: u32) -> usize
+// The length of the frame of RTCM that stands at place i, wholly in the piece.
+fn frame_here(held: &[u8], piece: &[u8], i: usize, mode: u32) -> Option<usize>
     requires { (i ≤ length held.now + length piece.now) × (length held.now + length piece.now < 2 ^ 64) }
-    ensures { (result ≡ 0 → ⊥) → Good result ≡ candidate (framing_of mode) (drop i (held.now ++ piece.now)) }
+    ensures { IfSome result (λ n. Good n ≡ candidate (framing_of mode) (drop i (held.now ++ piece.now))) }
 {
     let h = held.len();
     if i < h {
-        return 0;
+        return None;
     }
-    let Checked::Frame { length, .. } = frame::check(&piece[i - h..piece.len()]) else {
-        return 0;
-    };
-    length
+    match frame::check(&piece[i - h..piece.len()]) {
+        Ok(found) => Some(found.length),
+        Err(_) => None,
+    }
 }
 
 pub(crate) fn ended(count: usize, stop: usize, framed: usize, full: bool) -> Listing

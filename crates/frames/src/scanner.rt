@@ -3,15 +3,17 @@ ghost use Rattle.std.specs.Prelude.{◌≡◌, ◌++◌, ◌+◌, ◌-◌, ◌^�
 ghost use Rattle.bits.specs.Onto.{onto};
 ghost use Rattle.bits.specs.Outcome.{outcome};
 ghost use Rattle.frames.specs.Modes.{framing_of};
-ghost use Rattle.frames.specs.Call.{fresh, afresh, onwards, feed_of};
-ghost use Rattle.frames.specs.Answers.{known, told_kind, told_fed};
+ghost use Rattle.bits.specs.Told.{Accepted};
+ghost use Rattle.frames.specs.Call.{fresh, afresh, onwards, order_of, feed_of};
+ghost use Rattle.frames.specs.Answers.{known, told_kind, known_fed, told_fed, told_order};
 ghost use Rattle.frames.specs.Steps.{kind_at, moved, CanHold};
 
 use crate::{frame, scan};
+use bits::refusal::Refusal;
 
 // What a scanner knows beside the bytes it holds: how many they are, how many bytes it took since it was fresh, and what
 // it was opened for: 0 is RTCM only, 1 is RTCM and UBX.
-#[derive(Clone, Copy)]
+#[derive(Clone, Copy, Debug, PartialEq, Eq)]
 pub struct Scanner {
     pub count: usize,
     pub taken: u64,
@@ -19,15 +21,15 @@ pub struct Scanner {
 }
 
 // The kinds of frames.
-#[derive(Clone, Copy)]
+#[derive(Clone, Copy, Debug, PartialEq, Eq)]
 pub enum Kind {
     Rtcm,
     Ubx,
 }
 
 // What a call answers: More, or a frame at the front of the output with its stream place and its kind; the bytes taken
-// of the piece and the bytes skipped in this call, and the scanner from now on; or a refusal.
-#[derive(Clone, Copy)]
+// of the piece and the bytes skipped in this call, and the scanner from now on.
+#[derive(Clone, Copy, Debug, PartialEq, Eq)]
 pub enum Fed {
     More {
         taken: usize,
@@ -42,10 +44,6 @@ pub enum Fed {
         kind: Kind,
         scanner: Scanner,
     },
-    Size,
-    State,
-    // Carries the 1,029 bytes that the output needs.
-    Room(usize),
 }
 
 // A fresh scanner that is opened for a mode.
@@ -72,37 +70,47 @@ pub fn reset(scanner: Scanner) -> Scanner
 }
 
 // Feeds a piece to a scanner, whose held bytes are the first of the area `held`. What a call does not take of the piece is
-// to be offered again, until the answer is More.
-pub fn feed(held: &mut [u8], scanner: Scanner, piece: &[u8], out: &mut [u8]) -> Fed
+// to be offered again, until the answer is More. A refusal is Size, State, or Room with the 1,029 bytes that the output
+// needs.
+pub fn feed(held: &mut [u8], scanner: Scanner, piece: &[u8], out: &mut [u8]) -> Result<Fed, Refusal>
     ensures { outcome (told_fed result) (held.new, out.new) ≡ feed_of (framing_of scanner.mode) held.old (known scanner) piece.now out.old }
 {
-    if held.len() != 1029 {
-        return Fed::Size;
-    }
-    if 1029 < scanner.count {
-        return Fed::State;
-    }
-    if scanner.taken < scanner.count as u64 {
-        return Fed::State;
-    }
-    if 0x1_0000_0000_0000 < scanner.taken {
-        return Fed::State;
-    }
-    if 1 < scanner.mode {
-        return Fed::State;
-    }
+    in_order(scanner, held)?;
     if 65536 < piece.len() {
-        return Fed::Size;
+        return Err(Refusal::Size);
     }
     if 0x1_0000_0000_0000 < scanner.taken + piece.len() as u64 {
-        return Fed::Size;
+        return Err(Refusal::Size);
     }
     if out.len() < 1029 {
-        return Fed::Room(1029);
+        return Err(Refusal::Room(1029));
     }
     let count = scanner.count;
     let searched = scan::find_frame(&held[0..count], piece, scanner.mode);
-    carry_out(held, scanner, piece, out, searched)
+    Ok(carry_out(held, scanner, piece, out, searched))
+}
+
+// Whether a call can go on with a scanner and its held area: the area has its size, and the scanner holds at most 1,029
+// bytes, no more than it took, took at most 2^48, and has a mode that there is. Else the refusal, Size or State.
+pub fn in_order(scanner: Scanner, held: &[u8]) -> Result<(), Refusal>
+    ensures { told_order result ≡ order_of held.now (known scanner) }
+{
+    if held.len() != 1029 {
+        return Err(Refusal::Size);
+    }
+    if 1029 < scanner.count {
+        return Err(Refusal::State);
+    }
+    if scanner.taken < scanner.count as u64 {
+        return Err(Refusal::State);
+    }
+    if 0x1_0000_0000_0000 < scanner.taken {
+        return Err(Refusal::State);
+    }
+    if 1 < scanner.mode {
+        return Err(Refusal::State);
+    }
+    Ok(())
 }
 
 // Does what a search found: what stands behind the bytes to skip is held; or the frame there is handed out, and what
@@ -115,7 +123,7 @@ fn carry_out(
     searched: scan::Searched,
 ) -> Fed
     requires { (scanner.count ≤ length held.old) × (length held.old ≤ length out.old) × (1 ≤ length out.old) × (scanner.count ≤ scanner.taken) × (scanner.taken + length piece.now < 2 ^ 64) × CanHold (length held.old) scanner.count (length piece.now) searched }
-    ensures { outcome (told_fed result) (held.new, out.new) ≡ moved held.old (known scanner) piece.now out.old searched }
+    ensures { outcome (Accepted (known_fed result)) (held.new, out.new) ≡ moved held.old (known scanner) piece.now out.old searched }
 {
     let count = scanner.count;
     match searched {
@@ -177,7 +185,7 @@ pub(crate) fn gather(out: &mut [u8], held: &[u8], piece: &[u8], i: usize, n: usi
         frame::put_at(&piece[j..j + n], out, 0);
         return;
     }
-    let m = scan::least(h - i, n);
+    let m = (h - i).min(n);
     frame::put_at(&held[i..i + m], out, 0);
     frame::put_at(&piece[0..n - m], out, m);
 }
@@ -210,9 +218,5 @@ pub(crate) fn shift(held: &mut [u8], i: usize, n: usize)
     requires { i + n ≤ length held.old }
     ensures { held.new ≡ take n (drop i held.old) ++ drop n held.old }
 {
-    let mut k: usize = 0;
-    while k < n {
-        held[k] = held[i + k];
-        k += 1;
-    }
+    held.copy_within(i..i + n, 0);
 }

@@ -1,6 +1,7 @@
 -- Each refusal is a case of the definition; past them the walk tells. Assumes nothing.
-use mathlib.Core.Path.{◌∙◌}
+use mathlib.Core.Path.{ap, ◌∙◌}
 use native.Mathlib.Omega.{arith}
+use Rattle.bits.specs.Told.{Accepted}
 use Rattle.frames.proofs.FateLaws.{too_long, past_end, has_fate}
 use Rattle.frames.proofs.fate.of.Goals as goal
 
@@ -11,4 +12,4 @@ pub returns-then-recording-place : goal.returns-then-recording-place
 returns-then-recording-place c = past_end _ _ (omega arith) (omega arith)
 
 pub returns : goal.returns
-returns c = c.walk.ensures ∙ has_fate _ _ (omega arith) (omega arith)
+returns c = ap Accepted c.walk.ensures ∙ has_fate _ _ (omega arith) (omega arith)

@@ -1,7 +1,6 @@
 -- From frame to frame the fate of the byte stays, until it is reached or passed. Assumes nothing.
 use mathlib.Core.Path.{refl, sym, ap, ◌∙◌}
 use native.Mathlib.Omega.{arith}
-use Rattle.bits.specs.Told.{Accepted}
 use Rattle.frames.specs.Rtcm.{rtcm}
 use Rattle.frames.specs.Answers.{told_next}
 use Rattle.frames.proofs.RtcmLaws.{rtcm_lawful}
@@ -18,7 +17,7 @@ returns-then-place-start c =
     let w = c.loop-start in
     let x = stops rtcm a.recording.now rtcm_lawful w.from (omega (arith, w.invariant.0, c.requires)) c.in-Held.start (sym c.next_frame.ensures ∙ ap told_next c.in-Held.is) in
     let k = skipped_held a.recording.now a.place w.from c.in-Held.start x w.invariant.0 (omega (arith, c.if-place-start.true)) in
-    c.skipped.ensures k.0 k.1 ∙ ap Accepted (sym k.2 ∙ w.invariant.1)
+    c.skipped.ensures k.0 k.1 ∙ sym k.2 ∙ w.invariant.1
 
 pub overflow_sub-result : goal.overflow_sub-result
 overflow_sub-result c =
@@ -32,7 +31,7 @@ returns-in-Held c =
     let a = c.args in
     let w = c.loop-start in
     let x = stops rtcm a.recording.now rtcm_lawful w.from (omega (arith, w.invariant.0, c.requires)) c.in-Held.start (sym c.next_frame.ensures ∙ ap told_next c.in-Held.is) in
-    ap Accepted (held_there a.recording.now a.place w.from c.in-Held.start x (omega (arith, c.if-place-start.false)) ∙ w.invariant.1)
+    held_there a.recording.now a.place w.from c.in-Held.start x (omega (arith, c.if-place-start.false)) ∙ w.invariant.1
 
 pub returns-then-place-start-2 : goal.returns-then-place-start-2
 returns-then-place-start-2 c =
@@ -40,7 +39,7 @@ returns-then-place-start-2 c =
     let w = c.loop-start in
     let x = finds rtcm a.recording.now rtcm_lawful w.from (omega (arith, w.invariant.0, c.requires)) c.in-Frame.start c.in-Frame.length (sym c.next_frame.ensures ∙ ap told_next c.in-Frame.is) in
     let k = skipped_before a.recording.now a.place w.from c.in-Frame.start c.in-Frame.length x w.invariant.0 (omega (arith, c.if-place-start-2.true)) in
-    c.skipped-then-place-start-2.ensures k.0 k.1 ∙ ap Accepted (sym k.2 ∙ w.invariant.1)
+    c.skipped-then-place-start-2.ensures k.0 k.1 ∙ sym k.2 ∙ w.invariant.1
 
 pub overflow_add-start : goal.overflow_add-start
 overflow_add-start c =
@@ -54,7 +53,7 @@ returns-then-place-start-3 c =
     let a = c.args in
     let w = c.loop-start in
     let x = finds rtcm a.recording.now rtcm_lawful w.from (omega (arith, w.invariant.0, c.requires)) c.in-Frame.start c.in-Frame.length (sym c.next_frame.ensures ∙ ap told_next c.in-Frame.is) in
-    ap Accepted (frame_there a.recording.now a.place w.from c.in-Frame.start c.in-Frame.length x (omega (arith, c.if-place-start-2.false)) (omega (arith, c.if-place-start-3.true)) ∙ w.invariant.1)
+    frame_there a.recording.now a.place w.from c.in-Frame.start c.in-Frame.length x (omega (arith, c.if-place-start-2.false)) (omega (arith, c.if-place-start-3.true)) ∙ w.invariant.1
 
 pub overflow_add-from : goal.overflow_add-from
 overflow_add-from c =
