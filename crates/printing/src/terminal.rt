@@ -1,6 +1,7 @@
 // Standard output, and standard error, on which is said what failed.
 ghost use Rattle.std.specs.Prelude.{◌≤◌};
 
+use std::fmt::Display;
 use std::io::{Print, Stderr, Stdout, Write};
 use std::{io, str};
 
@@ -30,8 +31,8 @@ impl Terminal {
     }
 
     // Says the words on standard error. Where that cannot be done, there is no place left to tell of it.
-    pub fn say(&self, words: &str) {
-        self.say_bytes(words.as_bytes());
+    pub fn say(&self, words: impl Display + Drop) {
+        let _ = self.errors.print(words);
     }
 
     // The same of bytes that need not be text.
