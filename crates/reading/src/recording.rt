@@ -2,7 +2,7 @@
 ghost use Rattle.std.specs.Prelude.{◌≡◌, ◌≤◌, ◌-◌, length};
 ghost use Rattle.reading.specs.Account.{Right};
 
-use crate::{Account, Failure, Found, Source, skips};
+use crate::{Account, Failure, Found, Mode, Source, skips};
 use frames::close::Closed;
 use frames::scanner::Fed;
 use frames::{close, scanner};
@@ -48,7 +48,7 @@ impl<'a> Recording<'a> {
     ghost use Rattle.reading.specs.Skips.{byte_in};
 
     // Nothing is read at first.
-    pub fn new(source: Source, name: &'a [u8], terminal: Terminal, mode: u32) -> Recording<'a>
+    pub fn new(source: Source, name: &'a [u8], terminal: Terminal, mode: Mode) -> Recording<'a>
         ensures { AllTaken result.account }
     {
         Recording {
