@@ -1,5 +1,5 @@
 // Standard output, and standard error, on which is said what failed.
-ghost use Rattle.std.specs.Prelude.{◌≡◌, ◌≤◌};
+ghost use Rattle.std.specs.Prelude.{◌≡◌, ◌≤◌, IfOk};
 
 use std::fmt::Display;
 use std::io::{Print, Stderr, Stdout, Write};
@@ -12,7 +12,8 @@ pub struct Unwritten;
 // What gathered text is written to.
 pub trait Sink {
     // Writes all of the words. Where that cannot be done, it says so.
-    fn put(&mut self, words: &[u8]) -> Result<(), Unwritten>;
+    fn put(&mut self, words: &[u8]) -> Result<(), Unwritten>
+        ensures { IfOk result (λ u. u ≡ tt) };
 }
 
 #[derive(Clone, Copy)]
