@@ -1,5 +1,5 @@
-// Copies of bytes.
-ghost use Rattle.std.specs.Prelude.{◌≡◌, ◌++◌, ◌+◌, ◌-◌, ◌^◌, ◌≤◌, ◌<◌, min, length, take, drop};
+// Copies of bytes. Those of crate frames stay within it, since what is public asks nothing of its callers.
+ghost use Rattle.std.specs.Prelude.{◌≡◌, ◌++◌, ◌+◌, ◌-◌, ◌^◌, ◌≤◌, ◌<◌, length, take, drop};
 ghost use Rattle.bits.specs.Onto.{onto, over};
 
 // Holds what stands from place i on, of the held bytes with the piece behind them, and tells how many bytes that are.
@@ -27,11 +27,7 @@ fn shift(held: &mut [u8], i: usize, n: usize)
     requires { i + n ≤ length held.old }
     ensures { held.new ≡ take n (drop i held.old) ++ drop n held.old }
 {
-    let mut k: usize = 0;
-    while k < n {
-        held[k] = held[i + k];
-        k += 1;
-    }
+    held.copy_within(i..i + n, 0);
 }
 
 // Writes the part over the output from byte i on.
@@ -39,15 +35,5 @@ pub(crate) fn put_at(part: &[u8], out: &mut [u8], i: usize)
     requires { i + length part.now ≤ length out.old }
     ensures { out.new ≡ over i part.now out.old }
 {
-    let mut k: usize = 0;
-    while k < part.len() {
-        out[i + k] = part[k];
-        k += 1;
-    }
-}
-
-pub(crate) fn least(a: usize, b: usize) -> usize
-    ensures { result ≡ min a b }
-{
-    if a < b { a } else { b }
+    out[i..i + part.len()].copy_from_slice(part);
 }

@@ -43,19 +43,11 @@ fn fill(
     requires { Fill (length held.now) (length piece.now) starts.now lengths.now seam.old kinds.old }
     ensures { (seam.new ≡ seam_at (length held.now) (held.now ++ piece.now) starts.now lengths.now seam.old) × (kinds.new ≡ onto (kinds_at (held.now ++ piece.now) starts.now) kinds.old) }
 {
-    let mut k: usize = 0;
-    while k < starts.len() {
-        let place = size_of(starts[k]);
-        copy_early(seam, held, piece, place, size_of(lengths[k]));
+    for k in 0..starts.len() {
+        let place = starts[k] as usize;
+        copy_early(seam, held, piece, place, lengths[k] as usize);
         kinds[k] = kind_at(held, piece, place);
-        k += 1;
     }
-}
-
-fn size_of(x: u32) -> usize
-    ensures { result ≡ x }
-{
-    x as usize
 }
 
 // Copies n bytes from place i on to the same place of the seam, if they start in the held bytes.
@@ -67,7 +59,7 @@ fn copy_early(seam: &mut [u8], held: &[u8], piece: &[u8], i: usize, n: usize)
     if h <= i {
         return;
     }
-    let m = copy::least(h - i, n);
+    let m = (h - i).min(n);
     copy::put_at(&held[i..i + m], seam, i);
     copy::put_at(&piece[0..n - m], seam, i + m);
 }

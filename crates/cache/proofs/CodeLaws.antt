@@ -1,63 +1,32 @@
 -- Each case of the code: the tests of a key, a value and an entry, and the cases of each call. Assumes nothing.
-use mathlib.Core.Path.{◌≡◌, refl, sym, ap, ap₂, ◌∙◌}
+use mathlib.Core.Path.{◌≡◌, refl, sym, ap, ap₂, ◌∙◌, subst}
 use mathlib.Core.List.{List, [], ◌∷◌}
 use mathlib.Core.Option.{none, some}
+use mathlib.Core.Option as M
 use mathlib.Core.Bool.{Bool, true, false, cond, ◌&&◌, false≢true}
 use Prim.Native.Nat.{ℕ, suc, ◌+◌, ◌-◌, ◌^◌, ◌≤◌, ◌<◌}
 use native.Mathlib.Omega.{arith}
 use lib.ListN.{length, set, get_or}
 use lib.Dec.{ltb, eqb}
-use borrow.Author.Tests.{ltb-true, ltb-false, lt-ltb, le-ltb, eq-eqb, ne_eqb, eqb-true, eqb-false}
-use Rattle.bits.specs.Told.{Accepted, range, size, full, absent}
-use Rattle.bits.specs.Outcome.{outcome}
-use Rattle.cache.specs.Steps.{as_one}
-use Rattle.cache.specs.Cache.{Key, key, same, Value, value, fits_key, fits_value, free, key_in, widened, value_in, has_key, entry_of, blank, first, find, Store, Remove, Lookup, store_at, remove_at, act, step}
+use borrow.Author.Tests.{ltb-true, ltb-false, lt-ltb, le-ltb, eq-eqb, eqb-true, eqb-false}
+use Rattle.std.specs.Prelude.{not, Option, Some, None, MatchOption, position, Result, Ok, Err, IsErrAnd}
+use Rattle.bits.specs.Told.{Accepted, Refused, range, size, full, absent}
+use Rattle.bits.specs.Refusals.{told, number_of, carried_by}
+use Rattle.bits.specs.declared.refusal.Refusal.{Refusal}
+use Rattle.bits.specs.declared.refusal.Refusal.TheVariants.{Size, Range}
+use Rattle.std.specs.Option.{option_or}
+use Rattle.bits.specs.Outcome.{Outcome, outcome}
+use Rattle.cache.specs.Steps.{admitted, as_one}
+use Rattle.cache.proofs.PlaceLaws.{Placed, placed}
+use Rattle.cache.specs.Cache.{Key, key, same, Value, value, fits_value, free, key_in, widened, value_in, has_key, entry_of, blank, first, find, Call, fits, Store, Remove, Lookup, store_at, remove_at, act, step, Answer}
 
-both : (a b : Bool) → a && b ≡ true → (a ≡ true) × (b ≡ true)
+pub both : (a b : Bool) → a && b ≡ true → (a ≡ true) × (b ≡ true)
 both true b e = (refl, e)
 both false b e = absurd (false≢true e)
 
 -- ---- numbers within their fields
 
-module _ (p s a g : ℕ) where
-  pub bad_provider : 65535 < p → false ≡ fits_key (key p s a g)
-  unfolding fits_key
-  bad_provider h = let l : 2 ^ 16 ≤ p = omega arith in simp (le-ltb _ _ l)
-
-  module _ (hp : p ≤ 65535) where
-    lp : p < 2 ^ 16
-    lp = omega arith
-
-    pub bad_solution : 15 < s → false ≡ fits_key (key p s a g)
-    unfolding fits_key
-    bad_solution h = let l : 2 ^ 4 ≤ s = omega arith in simp (lt-ltb _ _ lp, le-ltb _ _ l)
-
-    module _ (hs : s ≤ 15) where
-      ls : s < 2 ^ 4
-      ls = omega arith
-
-      pub bad_satellite : 63 < a → false ≡ fits_key (key p s a g)
-      unfolding fits_key
-      bad_satellite h = let l : 2 ^ 6 ≤ a = omega arith in simp (lt-ltb _ _ lp, lt-ltb _ _ ls, le-ltb _ _ l)
-
-      pub by_signal : a ≤ 63 → ltb g 32 ≡ fits_key (key p s a g)
-      unfolding fits_key
-      by_signal h = let l : a < 2 ^ 6 = omega arith in simp (lt-ltb _ _ lp, lt-ltb _ _ ls, lt-ltb _ _ l)
-
-  -- what fits is small
-  pub key_small : fits_key (key p s a g) ≡ true → (p < 65536) × (s < 16) × (a < 64) × (g < 32)
-  unfolding fits_key
-  key_small f =
-      let x = both (ltb p (2 ^ 16)) _ f in
-      let y = both (ltb s (2 ^ 4)) _ x.1 in
-      let z = both (ltb a (2 ^ 6)) _ y.1 in
-      (ltb-true _ _ x.0, ltb-true _ _ y.0, ltb-true _ _ z.0, ltb-true _ _ z.1)
-
 module _ (i b : ℕ) where
-  pub bad_iod : 15 < i → false ≡ fits_value (value i b)
-  unfolding fits_value
-  bad_iod h = let l : 2 ^ 4 ≤ i = omega arith in simp (le-ltb _ _ l)
-
   module _ (h : i ≤ 15) where
     li : i < 2 ^ 4
     li = omega arith
@@ -79,10 +48,6 @@ module _ (i b : ℕ) where
             let m : b ≤ 4294959103 = ltb-false 4294959103 b q in
             let n : b < 2 ^ 32 - 2 ^ 13 = omega arith in
             q ∙ simp (lt-ltb _ _ li, le-ltb b (2 ^ 13) l, lt-ltb b (2 ^ 32 - 2 ^ 13) n)
-
-  pub value_small : fits_value (value i b) ≡ true → i < 16
-  unfolding fits_value
-  value_small f = ltb-true _ _ (both (ltb i (2 ^ 4)) _ f).0
 
 pub no_value : fits_value (value 0 0) ≡ true
 unfolding fits_value
@@ -115,15 +80,6 @@ compared p s a g q t b h lp ls la lq lt lb = go (eqb (as_one p s a g) (as_one q 
         let alike : as_one p s a g ≡ as_one q t b h =
         ap₂ (λ i j. as_one i j a g) (eqb-true p q x.0) (eqb-true s t y.0) ∙ ap₂ (as_one q t) (eqb-true a b z.0) (eqb-true g h z.1) in
         absurd (eqb-false (as_one p s a g) (as_one q t b h) e alike)
-
-module _ (e w : List ℕ) where
-  pub is_free : get_or e 0 0 ≡ 0 → false ≡ has_key (key_in w) e
-  unfolding has_key
-  is_free z = simp (eq-eqb _ _ z)
-
-  pub in_use : (get_or e 0 0 ≡ 0 → ⊥) → same (key_in e) (key_in w) ≡ has_key (key_in w) e
-  unfolding has_key
-  in_use n = simp (ne_eqb _ _ n)
 
 pub stays : (x : ℕ) → x < 32768 → x ≡ widened x
 unfolding widened
@@ -158,96 +114,83 @@ find_none k (e ∷ l) h = go (has_key k e) h (find_none k l)
 
 -- ---- calls
 
-module _ (k : Key) (v : Value) (l : List (List ℕ)) where
-  pub store_size : 512 < length l → outcome size l ≡ step (Store k v) l
+-- a refusal that is handed on
+handed_on : {T A : Type 0} (told_of : T → A) (r : Result T Refusal) (x : Refusal) → IsErrAnd r (λ e. e ≡ x) → told told_of r ≡ Refused (number_of x) (carried_by x)
+handed_on told_of (Err e) x p = ap (λ y. Refused (number_of y) (carried_by y)) p
+handed_on told_of (Ok v) x p = absurd p
+
+-- what every call refuses first, and what it does where it refuses nothing
+module _ (c : Call) (l : List (List ℕ)) (b : Bool) (fit : b ≡ fits c) where
+  abbrev refusal : Refusal → Outcome (M.Option Value) (List (List ℕ))
+  refusal x = outcome (Refused (number_of x) (carried_by x)) l
+
+  refused_so : (x : Refusal) → Err x ≡ admitted (length l) b → refusal x ≡ step c l
   unfolding step
-  store_size h = simp (lt-ltb 512 (length l) h)
+  refused_so x e = subst (λ (d : Bool). refusal x ≡ cond (ltb 512 (length l)) (outcome size l) (cond (not d) (outcome (range 0) l) (act c l))) fit (go (ltb 512 (length l)) b e)
+    where
+      go : (a d : Bool) → ◌≡◌ {A = Result (Unit {0}) Refusal} (Err x) (cond a (Err Size) (cond (not d) (Err (Range 0)) (Ok (tt {0}))))
+          → refusal x ≡ cond a (outcome size l) (cond (not d) (outcome (range 0) l) (act c l))
+      go true d p = let q : x ≡ Size = cc in ap refusal q
+      go false false p = let q : x ≡ Range 0 = cc in ap refusal q
+      go false true p = cc
 
-  module _ (h : length l ≤ 512) where
-    pub store_key : fits_key k ≡ false → outcome (range 0) l ≡ step (Store k v) l
-    unfolding step
-    store_key f = simp (le-ltb 512 (length l) h, f)
+  pub refused : {T : Type 0} (told_of : T → M.Option Value) (r : Result T Refusal) (x : Refusal) → Err x ≡ admitted (length l) b → IsErrAnd r (λ e. e ≡ x) → outcome (told told_of r) l ≡ step c l
+  refused told_of r x e p = ap (λ (a : Answer). outcome a l) (handed_on told_of r x p) ∙ refused_so x e
 
-    module _ (f : fits_key k ≡ true) where
-      pub store_value : fits_value v ≡ false → outcome (range 0) l ≡ step (Store k v) l
-      unfolding step
-      store_value g = simp (le-ltb 512 (length l) h, f, g)
-
-      module _ (g : fits_value v ≡ true) (e : List ℕ) (q : e ≡ entry_of k v) (i : ℕ) (at_i : i ≡ first (has_key k) l) where
-        pub replaced : i < length l → outcome (Accepted none) (set l i e) ≡ step (Store k v) l
-        unfolding step act store_at
-        replaced m =
-            let n : first (has_key k) l < length l = omega arith in
-            ap₂ (λ (x : List ℕ) (y : ℕ). outcome (Accepted none) (set l y x)) q at_i
-            ∙ simp (le-ltb 512 (length l) h, f, g, lt-ltb (first (has_key k) l) (length l) n)
-
-        module _ (m : length l ≤ i) (j : ℕ) (at_j : j ≡ first free l) where
-          out : length l ≤ first (has_key k) l
-          out = omega arith
-
-          pub filled : j < length l → outcome (Accepted none) (set l j e) ≡ step (Store k v) l
-          unfolding step act store_at
-          filled n =
-              let r : first free l < length l = omega arith in
-              ap₂ (λ (x : List ℕ) (y : ℕ). outcome (Accepted none) (set l y x)) q at_j
-              ∙ simp (le-ltb 512 (length l) h, f, g, le-ltb (first (has_key k) l) (length l) out, lt-ltb (first free l) (length l) r)
-
-          pub is_full : length l ≤ j → outcome full l ≡ step (Store k v) l
-          unfolding step act store_at
-          is_full n =
-              let r : length l ≤ first free l = omega arith in
-              simp (le-ltb 512 (length l) h, f, g, le-ltb (first (has_key k) l) (length l) out, le-ltb (first free l) (length l) r)
-
-module _ (k : Key) (l : List (List ℕ)) where
-  pub remove_size : 512 < length l → outcome size l ≡ step (Remove k) l
+  pub taken : (u : Unit {0}) → Ok u ≡ admitted (length l) b → (fits c ≡ true) × (act c l ≡ step c l)
   unfolding step
-  remove_size h = simp (lt-ltb 512 (length l) h)
-
-  pub lookup_size : 512 < length l → outcome size l ≡ step (Lookup k) l
-  unfolding step
-  lookup_size h = simp (lt-ltb 512 (length l) h)
-
-  module _ (h : length l ≤ 512) where
-    pub remove_key : fits_key k ≡ false → outcome (range 0) l ≡ step (Remove k) l
-    unfolding step
-    remove_key f = simp (le-ltb 512 (length l) h, f)
-
-    pub lookup_key : fits_key k ≡ false → outcome (range 0) l ≡ step (Lookup k) l
-    unfolding step
-    lookup_key f = simp (le-ltb 512 (length l) h, f)
-
-    module _ (f : fits_key k ≡ true) (i : ℕ) (at_i : i ≡ first (has_key k) l) where
-      pub freed : i < length l → outcome (Accepted none) (set l i blank) ≡ step (Remove k) l
-      unfolding step act remove_at
-      freed m =
-          let n : first (has_key k) l < length l = omega arith in
-          ap (λ (y : ℕ). outcome (Accepted none) (set l y blank)) at_i
-          ∙ simp (le-ltb 512 (length l) h, f, lt-ltb (first (has_key k) l) (length l) n)
-
-      pub nothing_there : length l ≤ i → outcome absent l ≡ step (Remove k) l
-      unfolding step act remove_at
-      nothing_there m =
-          let n : length l ≤ first (has_key k) l = omega arith in
-          simp (le-ltb 512 (length l) h, f, le-ltb (first (has_key k) l) (length l) n)
-
-      pub found_there : i < length l → (a b : ℕ) → a ≡ get_or (get_or l i []) 5 0 → b ≡ widened (get_or (get_or l i []) 6 0)
-          → outcome (Accepted (some (value a b))) l ≡ step (Lookup k) l
-      unfolding step act
-      found_there m a b x y =
-          let n : first (has_key k) l < length l = omega arith in
-          let d : find k l ≡ some (value_in (get_or l (first (has_key k) l) [])) = find_at k l n in
-          ap₂ (λ (u w : ℕ). outcome (Accepted (some (value u w))) l) x y
-          ∙ ap (λ (j : ℕ). outcome (Accepted (some (value_in (get_or l j [])))) l) at_i
-          ∙ simp (le-ltb 512 (length l) h, f, d)
-
-      pub not_found : length l ≤ i → outcome absent l ≡ step (Lookup k) l
-      unfolding step act
-      not_found m =
-          let n : length l ≤ first (has_key k) l = omega arith in
-          let d : find k l ≡ none = find_none k l n in
-          simp (le-ltb 512 (length l) h, f, d)
+  taken u e = subst (λ (d : Bool). (d ≡ true) × (act c l ≡ cond (ltb 512 (length l)) (outcome size l) (cond (not d) (outcome (range 0) l) (act c l)))) fit (go (ltb 512 (length l)) b e)
+    where
+      go : (a d : Bool) → ◌≡◌ {A = Result (Unit {0}) Refusal} (Ok u) (cond a (Err Size) (cond (not d) (Err (Range 0)) (Ok (tt {0}))))
+          → (d ≡ true) × (act c l ≡ cond a (outcome size l) (cond (not d) (outcome (range 0) l) (act c l)))
+      go true d p = absurd (cc)
+      go false false p = absurd (cc)
+      go false true p = (refl, refl)
 
 -- the place of the key of an entry w that was made for k
-pub at_key : (p s a g i b : ℕ) (w : List ℕ) (l : List (List ℕ)) (n : ℕ) → w ≡ entry_of (key p s a g) (value i b)
-    → n ≡ first (has_key (key_in w)) l → n ≡ first (has_key (key p s a g)) l
-at_key p s a g i b w l n e q = q ∙ ap (λ (x : List ℕ). first (has_key (key_in x)) l) e
+pub place_of : (k : Key) (v : Value) (w : List ℕ) (l : List (List ℕ)) (o : Option ℕ) → w ≡ entry_of k v → o ≡ position (has_key (key_in w)) l → Placed (has_key k) l o
+place_of (key p s a g) (value i b) w l o e q = placed (has_key (key p s a g)) l o (q ∙ ap (λ (x : List ℕ). position (has_key (key_in x)) l) e)
+
+-- where w is stored, which was made for k
+pub stored : (k : Key) (v : Value) (l : List (List ℕ)) (w : List ℕ) → w ≡ entry_of k v
+    → (o : Option ℕ) → Placed (has_key k) l o → (r : Option ℕ) → Placed free l r → (i : Option ℕ) → i ≡ option_or o r
+    → MatchOption i (outcome full l ≡ act (Store k v) l) (λ n. outcome (Accepted none) (set l n w) ≡ act (Store k v) l)
+unfolding act store_at
+stored k v l w is o at r at_free i e = subst (λ x. MatchOption x (outcome full l ≡ act (Store k v) l) (λ n. outcome (Accepted none) (set l n w) ≡ act (Store k v) l)) (sym e) (go o at r at_free)
+  where
+    go : (o : Option ℕ) → Placed (has_key k) l o → (r : Option ℕ) → Placed free l r
+        → MatchOption (option_or o r) (outcome full l ≡ act (Store k v) l) (λ n. outcome (Accepted none) (set l n w) ≡ act (Store k v) l)
+    go (Some i) p r q =
+        let h : first (has_key k) l < length l = omega (arith, p.0, p.1) in
+        rw (lt-ltb _ _ h, p.0, is)
+    go None p (Some j) q =
+        let h : first free l < length l = omega (arith, q.0, q.1) in
+        rw (le-ltb _ _ p, lt-ltb _ _ h, q.0, is)
+    go None p None q = rw (le-ltb _ _ p, le-ltb _ _ q)
+
+pub stored_in : (k : Key) (v : Value) (l : List (List ℕ)) (w : List ℕ) → w ≡ entry_of k v → (i : Option ℕ)
+    → i ≡ option_or (position (has_key (key_in w)) l) (position free l)
+    → MatchOption i (outcome full l ≡ act (Store k v) l) (λ n. outcome (Accepted none) (set l n w) ≡ act (Store k v) l)
+stored_in k v l w is i e =
+    stored k v l w is (position (has_key (key_in w)) l) (place_of k v w l _ is refl) (position free l) (placed free l _ refl) i e
+
+module _ (k : Key) (l : List (List ℕ)) (o : Option ℕ) (at : Placed (has_key k) l o) where
+  pub removed : MatchOption o (outcome absent l ≡ act (Remove k) l) (λ i. outcome (Accepted none) (set l i blank) ≡ act (Remove k) l)
+  unfolding act remove_at
+  removed = go o at
+    where
+      go : (o : Option ℕ) → Placed (has_key k) l o → MatchOption o (outcome absent l ≡ act (Remove k) l) (λ i. outcome (Accepted none) (set l i blank) ≡ act (Remove k) l)
+      go (Some i) p =
+          let h : first (has_key k) l < length l = omega (arith, p.0, p.1) in
+          rw (lt-ltb _ _ h, p.0)
+      go None p = rw (le-ltb _ _ p)
+
+  pub looked_up : MatchOption o (outcome absent l ≡ act (Lookup k) l) (λ i. outcome (Accepted (some (value_in (get_or l i [])))) l ≡ act (Lookup k) l)
+  unfolding act
+  looked_up = go o at
+    where
+      go : (o : Option ℕ) → Placed (has_key k) l o → MatchOption o (outcome absent l ≡ act (Lookup k) l) (λ i. outcome (Accepted (some (value_in (get_or l i [])))) l ≡ act (Lookup k) l)
+      go (Some i) p =
+          let h : first (has_key k) l < length l = omega (arith, p.0, p.1) in
+          rw (find_at k l h, p.0)
+      go None p = rw (find_none k l p)

@@ -9,5 +9,4 @@ pub mod CodeLaws
 pub mod ToldLaws
 pub mod KeepLaws
 pub mod BiasLaws
-pub mod FirstLaws
 pub mod RunLaws

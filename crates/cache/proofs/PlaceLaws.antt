@@ -1,37 +1,40 @@
--- The first place that a test tells, looked for from the left. Assumes nothing.
-use mathlib.Core.Path.{◌≡◌}
-use mathlib.Core.List.{List, []}
-use mathlib.Core.Bool.{Bool, true, false}
-use Prim.Native.Nat.{ℕ, suc, ◌+◌, ◌≤◌, ◌<◌}
-use native.Mathlib.Numerals.{add-one}
-use native.Mathlib.Omega.{arith}
-use lib.ListN.{length, get_or, drop, drop_of_length-le}
-use lib.Seq.{drop-cons}
+-- The first place that a test tells, and the place that `position` finds. Assumes nothing.
+use Rattle.std.specs.Prelude.{◌≡◌, List, [], ◌∷◌, map, Bool, true, false, cond, ℕ, suc, ◌+◌, ◌≤◌, ◌<◌, length, Option, Some, None, MatchOption, position}
+use Rattle.std.proofs.Common.{refl, ap, ◌∙◌, sym, arith, subst}
+use lib.Dec.{ltb}
+use lib.ListN.{length-map}
+use borrow.Author.Tests.{ltb-true, ltb-false}
+use Rattle.std.specs.List.{position_or_len}
+use Rattle.std.proofs.lemmas.List.Recursion.{is_position_or_len}
 use Rattle.cache.specs.Cache.{first}
 
-module _ (t : List ℕ → Bool) (l : List (List ℕ)) (i : ℕ) where
-  -- all places before i were tried
-  pub record Tried : Type 0 where
-    pub within : i ≤ length l
-    pub left : first t l ≡ i + first t (drop i l)
+-- what a search found: the first place that the test tells, or none
+abbrev pub Placed : {X : Type 0} → (X → Bool) → List X → Option ℕ → Type 0
+Placed t l o = MatchOption o (length l ≤ first t l) (λ i. (i ≡ first t l) × (i < length l))
 
-  pub hit : Tried → i < length l → t (get_or l i []) ≡ true → i ≡ first t l
-  unfolding first
-  hit p h e =
-      let z : first t (drop i l) ≡ 0 = rw (drop-cons l i [], e) in
-      omega (arith, p.left)
-
-  pub end : Tried → length l ≤ i → i ≡ first t l
-  unfolding first
-  end p h =
-      let z : first t (drop i l) ≡ 0 = rw (drop_of_length-le l h) in
-      omega (arith, p.left)
-
-pub miss : (t : List ℕ → Bool) (l : List (List ℕ)) (i : ℕ) → Tried t l i → i < length l → t (get_or l i []) ≡ false → Tried t l (i + 1)
+first_is : {X : Type 0} (t : X → Bool) (l : List X) → first t l ≡ position_or_len t l
 unfolding first
-miss t l i p h e =
-    let z : first t (drop i l) ≡ suc (first t (drop (i + 1) l)) = rw (add-one, drop-cons l i [], e) in
-    record { within = omega arith; left = omega (arith, p.left) }
+first_is t = is_position_or_len (first t) t refl (λ x l. ap (λ n. cond (t x) 0 n) (one (first t l)))
+  where
+    one : (n : ℕ) → suc n ≡ 1 + n
+    one n = omega arith
 
-pub start : (t : List ℕ → Bool) (l : List (List ℕ)) → Tried t l 0
-start t l = record { within = omega arith; left = omega arith }
+first_map : {X Y : Type 0} (f : X → Y) (t : Y → Bool) (l : List X) → first (λ x. t (f x)) l ≡ first t (map f l)
+unfolding first
+first_map f t [] = refl
+first_map f t (x ∷ l) = ap (λ n. cond (t (f x)) 0 (suc n)) (first_map f t l)
+
+pub placed : {X : Type 0} (t : X → Bool) (l : List X) (o : Option ℕ) → o ≡ position t l → Placed t l o
+placed t l o e = subst (Placed t l) (sym e) (go (ltb (position_or_len t l) (length l)) refl)
+  where
+    go : (b : Bool) → ltb (position_or_len t l) (length l) ≡ b → Placed t l (cond b (Some (position_or_len t l)) None)
+    go true q = (sym (first_is t l), ltb-true _ _ q)
+    go false q = let h = ltb-false _ _ q in omega (arith, first_is t l, h)
+
+-- the same, where the test looks at what f makes of each
+pub placed_map : {X Y : Type 0} (f : X → Y) (t : Y → Bool) (l : List X) (o : Option ℕ) → o ≡ position (λ x. t (f x)) l → Placed t (map f l) o
+placed_map f t l o e = go o (placed (λ x. t (f x)) l o e)
+  where
+    go : (o : Option ℕ) → Placed (λ x. t (f x)) l o → Placed t (map f l) o
+    go None p = omega (arith, p, first_map f t l, length-map l f)
+    go (Some i) p = (p.0 ∙ first_map f t l, omega (arith, p.1, length-map l f))

@@ -1,36 +1,24 @@
 -- What each answer of the code tells. Assumes nothing.
+use Rattle.std.specs.Prelude.{Result}
 use Rattle.std.proofs.Math.Option.{none, some}
-use Rattle.bits.specs.Told.{Accepted, range, size, full, absent}
+use Rattle.bits.specs.Refusals.{told}
+use Rattle.bits.specs.declared.refusal.Refusal.{Refusal}
 use Rattle.cache.specs.Cache.{Key, key, value, Answer}
 use Rattle.cache.specs.declared.cache.Key as code
-use Rattle.cache.specs.declared.cache.Stored.{Stored}
-use Rattle.cache.specs.declared.cache.Stored.TheVariants as S
-use Rattle.cache.specs.declared.cache.Removed.{Removed}
-use Rattle.cache.specs.declared.cache.Removed.TheVariants as R
-use Rattle.cache.specs.declared.cache.Found.{Found}
-use Rattle.cache.specs.declared.cache.Found.TheVariants as F
+use Rattle.cache.specs.declared.cache.Value as code_value
 
 -- the key that the code is given
 abbrev pub key_of : code.Key → Key
 key_of k = key k.provider k.solution k.satellite k.signal
 
 -- storing: nothing, or Size, Range with 0, Full
-abbrev pub told_stored : Stored → Answer
-told_stored S.Done = Accepted none
-told_stored S.Size = size
-told_stored S.Range = range 0
-told_stored S.Full = full
+abbrev pub told_stored : Result Unit Refusal → Answer
+told_stored = told (λ done. none)
 
 -- removing: nothing, or Size, Range with 0, Absent
-abbrev pub told_removed : Removed → Answer
-told_removed R.Done = Accepted none
-told_removed R.Size = size
-told_removed R.Range = range 0
-told_removed R.Absent = absent
+abbrev pub told_removed : Result Unit Refusal → Answer
+told_removed = told (λ done. none)
 
 -- looking up: the value, or Size, Range with 0, Absent
-abbrev pub told_found : Found → Answer
-told_found (F.Value i b) = Accepted (some (value i b))
-told_found F.Size = size
-told_found F.Range = range 0
-told_found F.Absent = absent
+abbrev pub told_found : Result code_value.Value Refusal → Answer
+told_found = told (λ v. some (value v.iod v.bias))

@@ -1,13 +1,16 @@
 // Storing, removing and looking up. An entry is seven numbers: 1 if it is in use or 0 if it is free, provider, solution,
 // satellite, signal, IOD, and the bias in 16 bits of two's complement.
-ghost use Rattle.std.specs.Prelude.{◌≡◌, true, ◌%◌, ◌^◌, ◌<◌};
+ghost use Rattle.std.specs.Prelude.{◌≡◌, true, ◌%◌, ◌^◌, ◌<◌, position};
+ghost use Rattle.std.specs.Option.{option_or};
 ghost use Rattle.bits.specs.Outcome.{outcome};
-ghost use Rattle.cache.specs.Cache.{value, key_in, free, has_key, widened, entry_of, first, fits_key, fits_value, Store, Remove, Lookup, step};
-ghost use Rattle.cache.specs.Steps.{as_one};
+ghost use Rattle.cache.specs.Cache.{value, key_in, value_in, free, has_key, widened, entry_of, first, fits_key, fits_value, fits, Store, Remove, Lookup, step};
+ghost use Rattle.cache.specs.Steps.{admitted, as_one};
 ghost use Rattle.cache.specs.Answers.{key_of, told_stored, told_removed, told_found};
 
+use bits::refusal::Refusal;
+
 // What an entry is stored under.
-#[derive(Clone, Copy)]
+#[derive(Clone, Copy, Debug, PartialEq, Eq)]
 pub struct Key {
     pub provider: u32,
     pub solution: u32,
@@ -15,124 +18,97 @@ pub struct Key {
     pub signal: u32,
 }
 
-#[derive(Clone, Copy)]
-pub enum Stored {
-    Done,
-    Size,
-    Range,
-    Full,
-}
-
-#[derive(Clone, Copy)]
-pub enum Removed {
-    Done,
-    Size,
-    Range,
-    Absent,
-}
-
-#[derive(Clone, Copy)]
-pub enum Found {
-    // IOD, and the bias in 32 bits of two's complement.
-    Value(u32, u32),
-    Size,
-    Range,
-    Absent,
+// What is stored under a key: the IOD, and the bias in 32 bits of two's complement.
+#[derive(Clone, Copy, Debug, PartialEq, Eq)]
+pub struct Value {
+    pub iod: u32,
+    pub bias: u32,
 }
 
 // Stores a value over the entry with its key, else in the first free one. The bias is in 32 bits of two's complement.
-pub fn store(entries: &mut [[u16; 7]], key: Key, iod: u32, bias: u32) -> Stored
+pub fn store(entries: &mut [[u16; 7]], key: Key, iod: u32, bias: u32) -> Result<(), Refusal>
     ensures { outcome (told_stored result) entries.new ≡ step (Store (key_of key) (value iod bias)) entries.old }
 {
-    if 512 < entries.len() {
-        return Stored::Size;
-    }
-    if !fits_key(key) {
-        return Stored::Range;
-    }
-    if !fits_value(iod, bias) {
-        return Stored::Range;
-    }
+    admit(entries.len(), fits(key, iod, bias))?;
     let e = entry_of(key, iod, bias);
-    let i = place(entries, e);
-    if i < entries.len() {
-        entries[i] = e;
-        return Stored::Done;
-    }
-    let j = vacant(entries);
-    if j < entries.len() {
-        entries[j] = e;
-        return Stored::Done;
-    }
-    Stored::Full
+    let Some(i) = place_for(entries, e) else {
+        return Err(Refusal::Full);
+    };
+    entries[i] = e;
+    Ok(())
 }
 
 // Frees the first entry with the key.
-pub fn remove(entries: &mut [[u16; 7]], key: Key) -> Removed
+pub fn remove(entries: &mut [[u16; 7]], key: Key) -> Result<(), Refusal>
     ensures { outcome (told_removed result) entries.new ≡ step (Remove (key_of key)) entries.old }
 {
-    if 512 < entries.len() {
-        return Removed::Size;
-    }
-    if !fits_key(key) {
-        return Removed::Range;
-    }
-    let i = place(entries, entry_of(key, 0, 0));
-    if i < entries.len() {
-        entries[i] = [0; 7];
-        return Removed::Done;
-    }
-    Removed::Absent
+    admit(entries.len(), fits_key(key))?;
+    let Some(i) = place(entries, entry_of(key, 0, 0)) else {
+        return Err(Refusal::Absent);
+    };
+    entries[i] = [0; 7];
+    Ok(())
 }
 
 // The value of the first entry with the key.
-pub fn lookup(entries: &[[u16; 7]], key: Key) -> Found
+pub fn lookup(entries: &[[u16; 7]], key: Key) -> Result<Value, Refusal>
     ensures { outcome (told_found result) entries.now ≡ step (Lookup (key_of key)) entries.now }
 {
-    if 512 < entries.len() {
-        return Found::Size;
+    admit(entries.len(), fits_key(key))?;
+    match place(entries, entry_of(key, 0, 0)) {
+        Some(i) => Ok(value_in(entries[i])),
+        None => Err(Refusal::Absent),
     }
-    if !fits_key(key) {
-        return Found::Range;
+}
+
+// The value of an entry.
+fn value_in(e: [u16; 7]) -> Value
+    ensures { value result.iod result.bias ≡ value_in e }
+{
+    Value {
+        iod: u32::from(e[5]),
+        bias: widened(e[6]),
     }
-    let i = place(entries, entry_of(key, 0, 0));
-    if i < entries.len() {
-        let e = entries[i];
-        return Found::Value(wide(e[5]), widened(e[6]));
+}
+
+// What every call refuses first: more than 512 entries, then a number outside its field.
+pub fn admit(count: usize, fits: bool) -> Result<(), Refusal>
+    ensures { result ≡ admitted count fits }
+{
+    if 512 < count {
+        return Err(Refusal::Size);
     }
-    Found::Absent
+    if !fits {
+        return Err(Refusal::Range(0));
+    }
+    Ok(())
+}
+
+// Whether all that is to be stored lies within its message fields.
+fn fits(key: Key, iod: u32, bias: u32) -> bool
+    ensures { result ≡ fits (Store (key_of key) (value iod bias)) }
+{
+    fits_key(key) && fits_value(iod, bias)
 }
 
 // Whether each number of the key lies within its message field.
+#[tactic(auto, unfolding(crate::specs::Cache::fits_key))]
 pub fn fits_key(key: Key) -> bool
     ensures { result ≡ fits_key (key_of key) }
 {
-    if 0xFFFF < key.provider {
-        return false;
-    }
-    if 15 < key.solution {
-        return false;
-    }
-    if 63 < key.satellite {
-        return false;
-    }
-    key.signal < 32
+    key.provider < 0x1_0000 && key.solution < 16 && key.satellite < 64 && key.signal < 32
 }
 
 // Whether IOD and bias lie within theirs.
+#[tactic(auto, unfolding(crate::specs::Cache::fits_value))]
 pub fn fits_value(iod: u32, bias: u32) -> bool
     ensures { result ≡ fits_value (value iod bias) }
 {
-    if 15 < iod {
-        return false;
-    }
-    if bias < 8192 {
-        return true;
-    }
-    4294959103 < bias
+    iod < 16 && (bias < 8192 || u32::MAX - 8192 < bias)
 }
 
 // An entry in use.
+#[tactic(auto, unfolding(crate::specs::Cache::fits_key, crate::specs::Cache::fits_value))]
 fn entry_of(key: Key, iod: u32, bias: u32) -> [u16; 7]
     requires { (fits_key (key_of key) ≡ true) × (fits_value (value iod bias) ≡ true) }
     ensures { result ≡ entry_of (key_of key) (value iod bias) }
@@ -148,67 +124,53 @@ fn entry_of(key: Key, iod: u32, bias: u32) -> [u16; 7]
     ]
 }
 
-// The first place with the key of w, or the number of places.
-fn place(entries: &[[u16; 7]], w: [u16; 7]) -> usize
-    ensures { result ≡ first (has_key (key_in w)) entries.now }
+// Where w is stored: the first place with its key, else the first free one.
+fn place_for(entries: &[[u16; 7]], w: [u16; 7]) -> Option<usize>
+    ensures { result ≡ option_or (position (has_key (key_in w)) entries.now) (position free entries.now) }
 {
-    let mut i: usize = 0;
-    while i < entries.len() {
-        let e = entries[i];
-        if has_key(e, w) {
-            return i;
-        }
-        i += 1;
-    }
-    i
+    place(entries, w).or_else(|| vacant(entries))
 }
 
-// The first free place, or the number of places.
-fn vacant(entries: &[[u16; 7]]) -> usize
-    ensures { result ≡ first free entries.now }
+// The first place with the key of w.
+fn place(entries: &[[u16; 7]], w: [u16; 7]) -> Option<usize>
+    ensures { result ≡ position (has_key (key_in w)) entries.now }
 {
-    let mut i: usize = 0;
-    while i < entries.len() {
-        if entries[i][0] == 0 {
-            return i;
-        }
-        i += 1;
-    }
-    i
+    entries.iter().position(|e| has_key(*e, w))
+}
+
+// The first free place.
+fn vacant(entries: &[[u16; 7]]) -> Option<usize>
+    ensures { result ≡ position free entries.now }
+{
+    entries.iter().position(|e| e[0] == 0)
 }
 
 // In use, with the whole key of w: provider, solution, satellite and signal.
+#[tactic(auto, unfolding(crate::specs::Cache::has_key), using(crate::proofs::CodeLaws::compared))]
 pub fn has_key(e: [u16; 7], w: [u16; 7]) -> bool
     ensures { result ≡ has_key (key_in w) e }
 {
-    if e[0] == 0 {
-        return false;
-    }
-    as_one(e[1], e[2], e[3], e[4]) == as_one(w[1], w[2], w[3], w[4])
+    e[0] != 0 && as_one(e[1], e[2], e[3], e[4]) == as_one(w[1], w[2], w[3], w[4])
 }
 
 // The four numbers of a key as one, so that one comparison tells whether all are the same. In this form it is one load.
+#[tactic(auto, unfolding(crate::specs::Steps::as_one))]
 fn as_one(provider: u16, solution: u16, satellite: u16, signal: u16) -> u64
     ensures { (result ≡ as_one provider solution satellite signal) × (provider < 2 ^ 16) × (solution < 2 ^ 16) × (satellite < 2 ^ 16) × (signal < 2 ^ 16) }
 {
-    (provider as u64)
-        + (solution as u64) * 0x1_0000
-        + (satellite as u64) * 0x1_0000_0000
-        + (signal as u64) * 0x1_0000_0000_0000
+    u64::from(provider)
+        + u64::from(solution) * 0x1_0000
+        + u64::from(satellite) * 0x1_0000_0000
+        + u64::from(signal) * 0x1_0000_0000_0000
 }
 
 // 16 bits of two's complement in 32.
+#[tactic(auto, unfolding(crate::specs::Cache::widened))]
 pub fn widened(x: u16) -> u32
     ensures { result ≡ widened x }
 {
     if x < 0x8000 {
-        return x as u32;
+        return u32::from(x);
     }
-    x as u32 + 0xFFFF_0000
-}
-
-fn wide(x: u16) -> u32
-    ensures { result ≡ x }
-{
-    x as u32
+    u32::from(x) + 0xFFFF_0000
 }

@@ -1,6 +1,5 @@
--- The arms of a `match` over a list: an arm has the number of its place, and no arm is left but beyond the list.
--- Assumes nothing.
-use mathlib.Core.Path.{◌≡◌, sym, ap}
+-- What is left behind the arms of a `match` over a list lies beyond the list. Assumes nothing.
+use mathlib.Core.Path.{◌≡◌, sym}
 use mathlib.Core.Logic.{◌⊎◌, inl, inr}
 use mathlib.Core.List.{[], ◌∷◌}
 use Prim.Native.Nat.{ℕ, zero, suc, ◌≤◌}
@@ -9,10 +8,6 @@ use native.Mathlib.Omega.{arith}
 use lib.ListN.{get_or, get_or-eq_default}
 use types.Run.{OneOf}
 use Rattle.crctable.specs.Table.{table}
-
--- a number, at a place that an arm told
-pub row : (i k : ℕ) → i ≡ k → get_or table k 0 ≡ get_or table i 0
-row i k e = ap (λ (n : ℕ). get_or table n 0) (sym e)
 
 -- none of the first k numbers is i
 abbrev Unmatched : ℕ → ℕ → Type 0

@@ -10,6 +10,7 @@ ghost use Rattle.std.specs.Prelude.{◌≡◌, get_or};
 ghost use Rattle.crctable.specs.Table.{table};
 
 // Number i of the table, or 0.
+#[tactic(auto, unfolding(crate::specs::Table::table))]
 pub fn entry(i: u32) -> u32
     ensures { result ≡ get_or table i 0 }
 {

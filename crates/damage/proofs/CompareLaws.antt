@@ -5,14 +5,15 @@ use mathlib.Core.List.{List}
 use Prim.Native.Nat.{ℕ, zero, suc, ◌+◌, ◌-◌, ◌≤◌, ◌<◌}
 use native.Mathlib.Omega.{arith}
 use lib.ListN.{length, get_or}
-use lib.Dec.{eqb}
-use borrow.Author.Tests.{eqb-true, eqb-false}
+use lib.Dec.{eqb, ltb}
+use borrow.Author.Tests.{eqb-true, eqb-false, eq-eqb, ne_eqb, ltb-true, ltb-false}
 use Rattle.bits.specs.Told.{Told, Accepted, Refused, size}
 use Rattle.bits.specs.Part.{part, within}
 use Rattle.damage.specs.Compare.{past_last, first_from, Run, run, differs, compare, part_of}
 use Rattle.damage.specs.Answers.{told_compared}
-use Rattle.damage.specs.declared.compare.Compared.{Compared}
-use Rattle.damage.specs.declared.compare.Compared.TheVariants.{Differs, Size}
+use Rattle.std.specs.Prelude.{Result, Ok, Err}
+use Rattle.bits.specs.declared.refusal.Refusal.{Refusal}
+use Rattle.damage.specs.declared.compare.Run as code
 
 -- what was accepted, and 1 if something was
 found : Told Run → Run
@@ -130,6 +131,64 @@ module _ (s t : List ℕ) where
       joined : first_from s t 0 (past_last s t n) + (past_last s t n - first_from s t 0 (past_last s t n)) - 1 ≡ past_last s t n - 1
       joined = omega (arith, less)
 
+  -- ---- by the first and the last differing place that the code found
+
+  -- nothing differs
+  pub none_differs : length s ≡ length t → ((k : ℕ) → k < length t → Same k) → Accepted (run 0 0) ≡ compare s t
+  unfolding compare
+  none_differs l same =
+      let e : past_last s t (length t) ≡ 0 = go (past_last s t (length t)) refl in
+      rw (eq-eqb (length s) (length t) l, e, nothing)
+    where
+      go : (x : ℕ) → past_last s t (length t) ≡ x → past_last s t (length t) ≡ 0
+      go zero q = q
+      go (suc x) q =
+          let m = last_le (length t) in
+          absurd (last_differs (length t) (omega (arith, q)) (same (past_last s t (length t) - 1) (omega (arith, q, m))))
+
+      nothing : first_from s t 0 0 ≡ 0
+      nothing = let h = first_le 0 0 in omega (arith, h)
+
+  module _ (i j : ℕ) (hj : j < length t) (dj : Same j → ⊥) (behind : (k : ℕ) → j < k → k < length t → Same k) where
+    -- the place j is the last one
+    is_last : past_last s t (length t) ≡ j + 1
+    is_last = go (ltb (past_last s t (length t)) (j + 1)) refl (ltb (j + 1) (past_last s t (length t))) refl
+      where
+        go : (a : Bool) → ltb (past_last s t (length t)) (j + 1) ≡ a → (b : Bool) → ltb (j + 1) (past_last s t (length t)) ≡ b → past_last s t (length t) ≡ j + 1
+        go true p b q = let h = ltb-true _ _ p in absurd (dj (behind_same (length t) j (omega (arith, h)) hj))
+        go false p true q =
+            let h = ltb-true _ _ q in
+            let m = last_le (length t) in
+            absurd (last_differs (length t) (omega (arith, h)) (behind (past_last s t (length t) - 1) (omega (arith, h)) (omega (arith, h, m))))
+        go false p false q = let h = ltb-false _ _ p in let m = ltb-false _ _ q in omega (arith, h, m)
+
+    module _ (di : Same i → ⊥) (before : (k : ℕ) → k < i → Same k) where
+      first_so : i ≤ j
+      first_so = go (ltb j i) refl
+        where
+          go : (b : Bool) → ltb j i ≡ b → i ≤ j
+          go true q = absurd (dj (before j (ltb-true _ _ q)))
+          go false q = ltb-false _ _ q
+
+      -- the place i is the first one
+      is_first : first_from s t 0 (j + 1) ≡ i
+      is_first = go (ltb (first_from s t 0 (j + 1)) i) refl (ltb i (first_from s t 0 (j + 1))) refl
+        where
+          go : (a : Bool) → ltb (first_from s t 0 (j + 1)) i ≡ a → (b : Bool) → ltb i (first_from s t 0 (j + 1)) ≡ b → first_from s t 0 (j + 1) ≡ i
+          go true p b q =
+              let h = ltb-true _ _ p in
+              absurd (first_differs (j + 1) 0 (omega (arith, h, first_so)) (before (first_from s t 0 (j + 1)) h))
+          go false p true q = absurd (di (before_same (j + 1) 0 i (omega arith) (ltb-true _ _ q)))
+          go false p false q = let h = ltb-false _ _ p in let m = ltb-false _ _ q in omega (arith, h, m)
+
+      pub both_differ : length s ≡ length t → Accepted (run i (j + 1 - i)) ≡ compare s t
+      unfolding compare
+      both_differ l = rw (eq-eqb (length s) (length t) l, is_last, is_first)
+
+  pub unequal : (length s ≡ length t → ⊥) → size ≡ compare s t
+  unfolding compare
+  unequal n = rw (ne_eqb (length s) (length t) n)
+
   -- ---- by the answer r of the code
 
   fits_of : (b : Bool) (i n : ℕ) → cond b (Accepted (differs s t (length t))) size ≡ Accepted (run i n) → i + n ≤ length t
@@ -140,16 +199,16 @@ module _ (s t : List ℕ) where
       subst (λ (r : Run). r.start + r.count ≤ length t) w h
   fits_of false i n e = let no : ◌≡◌ {A = ℕ} 0 1 = ap (λ (x : Told Run). accepts x) e in absurd (omega arith)
 
-  module _ (p : ℕ × ℕ) (r : Compared) (q : told_compared r ≡ compare s t) where
-    pub refused_part : r ≡ Size → within p (part 0 0 t) ≡ within p (part_of (compare s t) t)
-    refused_part g = ap (λ (x : Told Run). within p (part_of x t)) (sym (ap told_compared g) ∙ q)
+  module _ (p : ℕ × ℕ) (r : Result code.Run Refusal) (q : told_compared r ≡ compare s t) where
+    pub refused_part : (x : Refusal) → r ≡ Err x → within p (part 0 0 t) ≡ within p (part_of (compare s t) t)
+    refused_part x g = ap (λ (x : Told Run). within p (part_of x t)) (sym (ap told_compared g) ∙ q)
 
-    module _ (i n : ℕ) (g : r ≡ Differs i n) where
-      pub run_fits : i + n ≤ length t
+    module _ (v : code.Run) (g : r ≡ Ok v) where
+      pub run_fits : v.start + v.count ≤ length t
       unfolding compare
-      run_fits = fits_of (eqb (length s) (length t)) i n (sym q ∙ ap told_compared g)
+      run_fits = fits_of (eqb (length s) (length t)) v.start v.count (sym q ∙ ap told_compared g)
 
-      pub accepted_part : within p (part i (i + n - i) t) ≡ within p (part_of (compare s t) t)
+      pub accepted_part : within p (part v.start (v.start + v.count - v.start) t) ≡ within p (part_of (compare s t) t)
       accepted_part =
-          let d : i + n - i ≡ n = omega arith in
-          ap (λ (k : ℕ). within p (part i k t)) d ∙ ap (λ (x : Told Run). within p (part_of x t)) (sym (ap told_compared g) ∙ q)
+          let d : v.start + v.count - v.start ≡ v.count = omega arith in
+          ap (λ (k : ℕ). within p (part v.start k t)) d ∙ ap (λ (x : Told Run). within p (part_of x t)) (sym (ap told_compared g) ∙ q)

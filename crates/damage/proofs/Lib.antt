@@ -1,7 +1,6 @@
 pub mod BackLaws
 pub mod FeedLaws
 pub mod BurstLaw
-pub mod PlaceLaws
 pub mod CompareLaws
 pub mod ToldLaws
 pub mod Examples

@@ -1,14 +1,16 @@
 // Comparing what was sent with what was received.
-ghost use Rattle.std.specs.Prelude.{◌≡◌, ◌≤◌, length};
+ghost use Rattle.std.specs.Prelude.{◌≡◌, ◌≢◌, ◌<◌, ℕ, length, slice_index, MatchOption};
 ghost use Rattle.bits.specs.Part.{lent, within};
-ghost use Rattle.damage.specs.Compare.{past_last, first_from, compare, differing};
+ghost use Rattle.damage.specs.Compare.{compare, differing};
 ghost use Rattle.damage.specs.Answers.{told_compared};
 
-// What comparing answers: the run from the first to the last differing byte, of no bytes if there is none; or Size.
-#[derive(Clone, Copy)]
-pub enum Compared {
-    Differs { start: usize, count: usize },
-    Size,
+use bits::refusal::Refusal;
+
+// The run from the first to the last differing byte, of no bytes if there is none.
+#[derive(Clone, Copy, Debug, PartialEq, Eq)]
+pub struct Run {
+    pub start: usize,
+    pub count: usize,
 }
 
 // The part of the received bytes from the first to the last that differs from the sent ones: empty, at their start, if
@@ -16,53 +18,45 @@ pub enum Compared {
 pub fn differing<'a, 'b>(sent: &'a [u8], received: &'b [u8]) -> &'b [u8]
     ensures { lent result.ref_ptr result.now ≡ within received.entry.ref_ptr (differing sent.now received.now) }
 {
-    let Compared::Differs { start, count } = compare(sent, received) else {
+    let Ok(run) = compare(sent, received) else {
         return &received[0..0];
     };
-    &received[start..start + count]
+    &received[run.start..run.start + run.count]
 }
 
 // Compares two areas of one length, else Size.
-pub fn compare(sent: &[u8], received: &[u8]) -> Compared
+pub fn compare(sent: &[u8], received: &[u8]) -> Result<Run, Refusal>
     ensures { told_compared result ≡ compare sent.now received.now }
 {
     if sent.len() != received.len() {
-        return Compared::Size;
+        return Err(Refusal::Size);
     }
-    let end = past_last(sent, received);
-    let start = first(sent, received, end);
-    Compared::Differs {
-        start,
-        count: end - start,
+    match (first(sent, received), last(sent, received)) {
+        (Some(start), Some(last)) => Ok(Run {
+            start,
+            count: last + 1 - start,
+        }),
+        _ => Ok(Run { start: 0, count: 0 }),
     }
 }
 
-// One past the last place at which two areas of one length differ, or 0.
-fn past_last(sent: &[u8], received: &[u8]) -> usize
+// The first place at which two areas of one length differ.
+fn first(sent: &[u8], received: &[u8]) -> Option<usize>
     requires { length sent.now ≡ length received.now }
-    ensures { (result ≡ past_last sent.now received.now (length received.now)) × (result ≤ length received.now) }
+    ensures { MatchOption result ((k : ℕ) → k < length received.now → slice_index sent.now k ≡ slice_index received.now k) (λ i. (i < length received.now) × (slice_index sent.now i ≢ slice_index received.now i) × ((k : ℕ) → k < i → slice_index sent.now k ≡ slice_index received.now k)) }
 {
-    let mut end = received.len();
-    while 0 < end {
-        if sent[end - 1] != received[end - 1] {
-            return end;
-        }
-        end -= 1;
-    }
-    end
+    sent.iter().zip(received).position(|(s, r)| s != r)
 }
 
-// The first place before `end` at which they differ, or `end`.
-fn first(sent: &[u8], received: &[u8], end: usize) -> usize
-    requires { (length sent.now ≡ length received.now) × (end ≤ length received.now) }
-    ensures { (result ≡ first_from sent.now received.now 0 end) × (result ≤ end) }
+// The last one.
+fn last(sent: &[u8], received: &[u8]) -> Option<usize>
+    requires { length sent.now ≡ length received.now }
+    ensures { MatchOption result ((k : ℕ) → k < length received.now → slice_index sent.now k ≡ slice_index received.now k) (λ i. (i < length received.now) × (slice_index sent.now i ≢ slice_index received.now i) × ((k : ℕ) → i < k → k < length received.now → slice_index sent.now k ≡ slice_index received.now k)) }
 {
-    let mut i: usize = 0;
-    while i < end {
+    for i in (0..sent.len()).rev() {
         if sent[i] != received[i] {
-            return i;
+            return Some(i);
         }
-        i += 1;
     }
-    i
+    None
 }

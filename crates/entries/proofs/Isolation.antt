@@ -12,24 +12,23 @@ use Rattle.cache.specs.Cache as C
 use Rattle.cache.specs.Runs.{calls_of, answers_to, AllFree, NoFull}
 use Rattle.cache.proofs.RunLaws.{answers_end, answers_on}
 use Rattle.cache.proofs.Isolation as I
-use Rattle.entries.specs.Entries.{numbers_of, told_answer}
+use Rattle.entries.specs.Entries.{numbers_of}
 use Rattle.entries.specs.Runs.{Ran, ended, called}
 use Rattle.entries.specs.declared.Entry.{Entry}
-use Rattle.entries.specs.declared.Answer.{Answer}
 
 -- one call more, over entries and over their numbers
-one : (p : ℕ) (l m : List Entry) (c : Call) (cs : List Call) (r : Answer) (rest : List C.Answer)
-    → outcome (told_answer r) (map numbers_of m) ≡ step c (map numbers_of l) → rest ≡ answers_to p (map numbers_of m) cs
-    → cond (eqb (caller c) p) (told_answer r ∷ rest) rest ≡ answers_to p (map numbers_of l) (c ∷ cs)
-one p l m c cs r rest e h =
-    ap (λ (x : List C.Answer). cond (eqb (caller c) p) (told_answer r ∷ x) x) h
+one : (p : ℕ) (l m : List Entry) (c : Call) (cs : List Call) (a : C.Answer) (rest : List C.Answer)
+    → outcome a (map numbers_of m) ≡ step c (map numbers_of l) → rest ≡ answers_to p (map numbers_of m) cs
+    → cond (eqb (caller c) p) (a ∷ rest) rest ≡ answers_to p (map numbers_of l) (c ∷ cs)
+one p l m c cs a rest e h =
+    ap (λ (x : List C.Answer). cond (eqb (caller c) p) (a ∷ x) x) h
     ∙ ap (λ (o : Outcome (Option Value) (List (List ℕ))). cond (eqb (caller c) p) (o.answer ∷ answers_to p o.areas cs) (answers_to p o.areas cs)) e
     ∙ sym (answers_on p (map numbers_of l) c cs)
 
 -- a run answers what the run over the numbers of the entries answers
 pub ran_answers : (p : ℕ) (l : List Entry) (cs : List Call) (given : List C.Answer) → Ran p l cs given → given ≡ answers_to p (map numbers_of l) cs
 ran_answers p _ _ _ (ended l) = sym (answers_end p (map numbers_of l))
-ran_answers p _ _ _ (called l m c cs r rest e run) = one p l m c cs r rest e (ran_answers p m cs rest run)
+ran_answers p _ _ _ (called l m c cs a rest e run) = one p l m c cs a rest e (ran_answers p m cs rest run)
 
 -- Two runs from lists of the same length with every entry free, in which provider p makes the same calls and no store of it
 -- is answered Full, answer the same to it, whatever other providers do between.

@@ -1,5 +1,3 @@
-pub mod LookLaws
-pub mod WalkLaws
-pub mod FoundLaws
+pub mod CallLaws
 pub mod OnlyLaws
 pub mod Isolation

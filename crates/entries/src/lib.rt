@@ -1,15 +1,15 @@
-// The bias cache over a lent list of entry structs. `walk` goes along the list once and writes at most one entry; all that
-// decides is by value, and asks crate cache.
+// The bias cache over a lent list of entry structs. What it does is by value, and asks crate cache.
 #![tactic(auto)]
 
-ghost use Rattle.std.specs.Prelude.{◌≡◌, map, set};
+ghost use Rattle.std.specs.Prelude.{◌≡◌, ◌&&◌, map, position};
+ghost use Rattle.std.specs.Option.{option_or};
 ghost use Rattle.bits.specs.Outcome.{outcome};
-ghost use Rattle.cache.specs.Cache.{blank, entry_of, Store, Remove, Lookup, step};
-ghost use Rattle.cache.specs.Answers.{key_of as cache_key_of};
+ghost use Rattle.cache.specs.Cache.{value, blank, entry_of, free, has_key, fits_key, fits_value, fits, Store, Remove, Lookup, step};
+ghost use Rattle.cache.specs.Answers.{key_of as cache_key_of, told_found};
 ghost use Rattle.entries.specs.Entries.{numbers_of, key_of, value_of, told_answer};
-ghost use Rattle.entries.specs.Walk.{long_at, held_in, free_in, look_of, place_of, walk_from, start_of, ask_to_store, ask_for, held_answer, told_of};
 
-use cache::cache::Key;
+use bits::refusal::Refusal;
+use cache::cache::{Key, Value};
 
 // An entry: 1 if it is in use or 0 if it is free, its key, its IOD, and its bias in 16 bits of two's complement.
 #[repr(C)]
@@ -24,236 +24,89 @@ pub struct Entry {
     pub bias: u16,
 }
 
-#[derive(Clone, Copy)]
-pub enum Answer {
-    Done,
-    // IOD, and the bias in 32 bits of two's complement.
-    Value(u32, u32),
-    Size,
-    Range,
-    Full,
-    Absent,
-}
-
-// What was seen along the list: the first entry with the key that is wanted, and its place; the first free place; and
-// whether there are over 512 entries. `ask` is 0 to store, 1 to remove, 2 to look up, and 3 where a number is out of range.
-#[derive(Clone, Copy)]
-struct Seen {
-    ask: u32,
-    wanted: Entry,
-    is_held: bool,
-    held: usize,
-    had: Entry,
-    is_free: bool,
-    free: usize,
-    is_long: bool,
-}
-
 // Stores the value of e under its key: over the first entry with the key, else in the first free one. Whether e says that
 // it is in use does not matter.
-pub fn store(s: &mut [Entry], e: Entry) -> Answer
+pub fn store(s: &mut [Entry], e: Entry) -> Result<(), Refusal>
     ensures { outcome (told_answer result) (map numbers_of s.new) ≡ step (Store (key_of e) (value_of e)) (map numbers_of s.old) }
 {
-    told(walk(s, storing(e), used(e)))
+    cache::cache::admit(s.len(), fits(e))?;
+    let Some(i) = place_for(s, e) else {
+        return Err(Refusal::Full);
+    };
+    s[i] = used(e);
+    Ok(())
 }
 
 // Frees the first entry with the key of e.
-pub fn remove(s: &mut [Entry], e: Entry) -> Answer
+pub fn remove(s: &mut [Entry], e: Entry) -> Result<(), Refusal>
     ensures { outcome (told_answer result) (map numbers_of s.new) ≡ step (Remove (key_of e)) (map numbers_of s.old) }
 {
-    told(walk(s, removing(e), vacated(e)))
+    cache::cache::admit(s.len(), cache::cache::fits_key(key_of(e)))?;
+    let Some(i) = place(s, e) else {
+        return Err(Refusal::Absent);
+    };
+    s[i] = vacated();
+    Ok(())
 }
 
 // The value of the first entry with the key of e.
-pub fn lookup(s: &mut [Entry], e: Entry) -> Answer
-    ensures { outcome (told_answer result) (map numbers_of s.new) ≡ step (Lookup (key_of e)) (map numbers_of s.old) }
+pub fn lookup(s: &[Entry], e: Entry) -> Result<Value, Refusal>
+    ensures { outcome (told_found result) (map numbers_of s.now) ≡ step (Lookup (key_of e)) (map numbers_of s.now) }
 {
-    told(walk(s, seeking(e), vacated(e)))
-}
-
-// Goes along the list, and then writes the entry to the place that was found.
-fn walk(s: &mut [Entry], start: Seen, e: Entry) -> Seen
-    ensures { (result ≡ walk_from 0 start s.old) × (s.new ≡ set s.old (place_of result) e) }
-{
-    let mut seen = start;
-    let mut i: usize = 0;
-    while i < s.len() {
-        seen = look(seen, s[i], i);
-        i += 1;
-    }
-    let at = place(seen);
-    if at < s.len() {
-        s[at] = e;
-    }
-    seen
-}
-
-// One entry more, at place i.
-fn look(seen: Seen, e: Entry, i: usize) -> Seen
-    ensures { result ≡ look_of seen e i }
-{
-    if 511 < i {
-        return long(seen);
-    }
-    free_in(held_in(seen, e, i), e, i)
-}
-
-// There are over 512 entries.
-fn long(seen: Seen) -> Seen
-    ensures { result ≡ long_at seen }
-{
-    let mut next = seen;
-    next.is_long = true;
-    next
-}
-
-// Whether the entry is the first with the key.
-fn held_in(seen: Seen, e: Entry, i: usize) -> Seen
-    ensures { result ≡ held_in seen e i }
-{
-    if seen.is_held {
-        return seen;
-    }
-    let w = seen.wanted;
-    let h = seen.had;
-    if cache::cache::has_key(numbers(e), numbers(w)) {
-        return Seen {
-            ask: seen.ask,
-            wanted: w,
-            is_held: true,
-            held: i,
-            had: e,
-            is_free: seen.is_free,
-            free: seen.free,
-            is_long: seen.is_long,
-        };
-    }
-    seen
-}
-
-// Whether the entry is the first free one.
-fn free_in(seen: Seen, e: Entry, i: usize) -> Seen
-    ensures { result ≡ free_in seen e i }
-{
-    if seen.is_free {
-        return seen;
-    }
-    if e.in_use == 0 {
-        let mut next = seen;
-        next.is_free = true;
-        next.free = i;
-        return next;
-    }
-    seen
-}
-
-// The place that is written to. What is past the end of every list is none.
-fn place(seen: Seen) -> usize
-    ensures { result ≡ place_of seen }
-{
-    if seen.is_long {
-        return usize::MAX;
-    }
-    if 1 < seen.ask {
-        return usize::MAX;
-    }
-    if seen.is_held {
-        return seen.held;
-    }
-    if seen.ask == 1 {
-        return usize::MAX;
-    }
-    if seen.is_free {
-        return seen.free;
-    }
-    usize::MAX
-}
-
-// What is answered.
-fn told(seen: Seen) -> Answer
-    ensures { result ≡ told_of seen }
-{
-    if seen.is_long {
-        return Answer::Size;
-    }
-    if 2 < seen.ask {
-        return Answer::Range;
-    }
-    if seen.is_held {
-        return told_held(seen.ask, seen.had);
-    }
-    if seen.ask != 0 {
-        return Answer::Absent;
-    }
-    if seen.is_free {
-        return Answer::Done;
-    }
-    Answer::Full
-}
-
-fn told_held(ask: u32, had: Entry) -> Answer
-    ensures { result ≡ held_answer ask had }
-{
-    if ask == 2 {
-        return Answer::Value(had.iod as u32, cache::cache::widened(had.bias));
-    }
-    Answer::Done
-}
-
-// Nothing is seen yet.
-fn start(ask: u32, e: Entry) -> Seen
-    ensures { result ≡ start_of ask e }
-{
-    Seen {
-        ask,
-        wanted: e,
-        is_held: false,
-        held: 0,
-        had: e,
-        is_free: false,
-        free: 0,
-        is_long: false,
+    cache::cache::admit(s.len(), cache::cache::fits_key(key_of(e)))?;
+    match place(s, e) {
+        Some(i) => Ok(value_of(s[i])),
+        None => Err(Refusal::Absent),
     }
 }
 
-fn storing(e: Entry) -> Seen
-    ensures { result ≡ start_of (ask_to_store e) e }
+// Where e is stored: the first place with its key, else the first free one.
+fn place_for(s: &[Entry], e: Entry) -> Option<usize>
+    ensures { result ≡ option_or (position (λ x. has_key (key_of e) (numbers_of x)) s.now) (position (λ x. free (numbers_of x)) s.now) }
 {
-    if !cache::cache::fits_key(key_of(e)) {
-        return start(3, e);
-    }
-    if !cache::cache::fits_value(e.iod as u32, cache::cache::widened(e.bias)) {
-        return start(3, e);
-    }
-    start(0, e)
+    place(s, e).or_else(|| vacant(s))
 }
 
-fn removing(e: Entry) -> Seen
-    ensures { result ≡ start_of (ask_for 1 e) e }
+// The first place with the key of e.
+fn place(s: &[Entry], e: Entry) -> Option<usize>
+    ensures { result ≡ position (λ x. has_key (key_of e) (numbers_of x)) s.now }
 {
-    if cache::cache::fits_key(key_of(e)) {
-        return start(1, e);
-    }
-    start(3, e)
+    s.iter()
+        .position(|x| cache::cache::has_key(numbers(*x), numbers(e)))
 }
 
-fn seeking(e: Entry) -> Seen
-    ensures { result ≡ start_of (ask_for 2 e) e }
+// The first free place.
+fn vacant(s: &[Entry]) -> Option<usize>
+    ensures { result ≡ position (λ x. free (numbers_of x)) s.now }
 {
-    if cache::cache::fits_key(key_of(e)) {
-        return start(2, e);
-    }
-    start(3, e)
+    s.iter().position(|x| x.in_use == 0)
+}
+
+// Whether the key and the value of e lie within their message fields.
+fn fits(e: Entry) -> bool
+    ensures { result ≡ fits (Store (key_of e) (value_of e)) }
+{
+    let value = value_of(e);
+    cache::cache::fits_key(key_of(e)) && cache::cache::fits_value(value.iod, value.bias)
 }
 
 fn key_of(e: Entry) -> Key
     ensures { cache_key_of result ≡ key_of e }
 {
     Key {
-        provider: e.provider as u32,
-        solution: e.solution as u32,
-        satellite: e.satellite as u32,
-        signal: e.signal as u32,
+        provider: u32::from(e.provider),
+        solution: u32::from(e.solution),
+        satellite: u32::from(e.satellite),
+        signal: u32::from(e.signal),
+    }
+}
+
+fn value_of(e: Entry) -> Value
+    ensures { value result.iod result.bias ≡ value_of e }
+{
+    Value {
+        iod: u32::from(e.iod),
+        bias: cache::cache::widened(e.bias),
     }
 }
 
@@ -261,13 +114,11 @@ fn key_of(e: Entry) -> Key
 fn used(e: Entry) -> Entry
     ensures { numbers_of result ≡ entry_of (key_of e) (value_of e) }
 {
-    let mut next = e;
-    next.in_use = 1;
-    next
+    Entry { in_use: 1, ..e }
 }
 
-// The entry, freed.
-fn vacated(e: Entry) -> Entry
+// A freed entry.
+fn vacated() -> Entry
     ensures { numbers_of result ≡ blank }
 {
     Entry {

@@ -55,7 +55,7 @@ pub fn number_of(data: &[u8]) -> Option<u16>
     if data.len() < 2 {
         return None;
     }
-    Some(((wide(data[0]) * 0x100 + wide(data[1])) / 16) as u16)
+    Some((data[0] as u16 * 0x100 + data[1] as u16) / 16)
 }
 
 // The whole frame at the start of the bytes, as a part of them: empty if the check refuses.
@@ -114,7 +114,7 @@ fn three_at(bytes: &[u8], i: usize) -> u32
     requires { i + 3 ≤ length bytes.now }
     ensures { (result ≡ field bytes.now (i * 8) 24) × (result < 2 ^ 24) }
 {
-    wide(bytes[i]) * 0x1_0000 + wide(bytes[i + 1]) * 0x100 + wide(bytes[i + 2])
+    bytes[i] as u32 * 0x1_0000 + bytes[i + 1] as u32 * 0x100 + bytes[i + 2] as u32
 }
 
 // Writes a number of 24 bits over three bytes from byte i on, highest first.
@@ -127,37 +127,10 @@ fn put_three(out: &mut [u8], i: usize, v: u32)
     out[i + 2] = (v % 0x100) as u8;
 }
 
-// Writes the part over the output from byte i on: 32 bytes at a time, and the last 32 once more, so that no few are left
-// over.
+// Writes the part over the output from byte i on.
 pub(crate) fn put_at(part: &[u8], out: &mut [u8], i: usize)
     requires { i + length part.now ≤ length out.old }
     ensures { out.new ≡ over i part.now out.old }
 {
-    let n = part.len();
-    if n < 32 {
-        put_each(part, out, i);
-        return;
-    }
-    let last = n - 32;
-    put_each(&part[0..n / 32 * 32], out, i);
-    put_each(&part[last..n], out, i + last);
-}
-
-// The same byte by byte.
-fn put_each(part: &[u8], out: &mut [u8], i: usize)
-    requires { i + length part.now ≤ length out.old }
-    ensures { out.new ≡ over i part.now out.old }
-{
-    let mut k: usize = 0;
-    while k < part.len() {
-        out[i + k] = part[k];
-        k += 1;
-    }
-}
-
-// A byte as a number that can be shifted up.
-pub(crate) fn wide(x: u8) -> u32
-    ensures { (result ≡ x) × (result < 256) }
-{
-    x as u32
+    out[i..i + part.len()].copy_from_slice(part);
 }

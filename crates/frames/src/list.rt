@@ -32,9 +32,9 @@ pub fn frames_across(
 ) -> Listing
     ensures { (result, starts.new, lengths.new) ≡ list_of mode held.now piece.now starts.old lengths.old }
 {
-    let h = scan::least(held.len(), 1029);
-    let n = scan::least(piece.len(), 65536);
-    let room = scan::least(starts.len(), lengths.len());
+    let h = held.len().min(1029);
+    let n = piece.len().min(65536);
+    let room = starts.len().min(lengths.len());
     list_plain(&held[0..h], &piece[0..n], mode, room, starts, lengths)
 }
 
@@ -101,19 +101,17 @@ fn list_run(
     ensures { Within (length held.now + length piece.now) places result × (list_on (places - result.count) result.count result.stop result.framed (scan (decide (framing_of mode)) (drop result.stop (held.now ++ piece.now))).items starts.new lengths.new ≡ list_on (places - reached.count) reached.count reached.stop reached.framed (scan (decide (framing_of mode)) (drop reached.stop (held.now ++ piece.now))).items starts.old lengths.old) × (reached.stop ≤ result.stop) }
 {
     let mut i = reached.stop;
-    let mut k = reached.count;
     let mut framed = reached.framed;
-    while k < places {
+    for k in reached.count..places {
         let Some(n) = frame_here(held, piece, i, mode) else {
             return ended(k, i, framed, false);
         };
         starts[k] = i as u32;
         lengths[k] = n as u32;
         framed += n;
-        k += 1;
         i += n;
     }
-    ended(k, i, framed, false)
+    ended(places, i, framed, false)
 }
 
 // The length of the frame of RTCM that stands at place i, wholly in the piece.

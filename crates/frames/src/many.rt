@@ -1,7 +1,7 @@
 // The search for a frame where many candidates fail. The checksums of the bytes from each place of a window up to its end
 // are taken in one pass; a candidate is then decided by two of them, which are equal exactly if the checksum of all its
 // bytes is 0. So no stream asks for a sum of up to 1,029 bytes at each of its bytes.
-ghost use Rattle.std.specs.Prelude.{◌≡◌, true, ◌++◌, ◌+◌, ◌-◌, ◌^◌, ◌≤◌, ◌<◌, min, length, get_or, drop};
+ghost use Rattle.std.specs.Prelude.{◌≡◌, true, ◌++◌, ◌+◌, ◌-◌, ◌^◌, ◌≤◌, ◌<◌, min, length, get_or, drop, IfSome};
 ghost use Rattle.frames.specs.Framing.{decide};
 ghost use Rattle.frames.specs.Feed.{feed};
 ghost use Rattle.frames.specs.Rtcm.{rtcm};
@@ -12,7 +12,7 @@ ghost use Rattle.frames.specs.Steps.{starts_in, candidate, searched, Reached, Ta
 ghost use Rattle.frames.specs.declared.scan.Candidate.TheVariants.{NotValid};
 
 use crate::scan::{Candidate, Searched};
-use crate::{frame, scan, scanner, ubx};
+use crate::{scan, scanner, ubx};
 
 // A window: its first place, and the place behind its last byte.
 #[derive(Clone, Copy)]
@@ -60,10 +60,10 @@ fn find_rtcm(held: &[u8], piece: &[u8], from: usize, first: usize) -> Searched
                 return Searched::More(j);
             }
             Candidate::Good(n) => {
-                return Searched::Frame(j, n, scan::most(end, j + n) - h);
+                return Searched::Frame(j, n, end.max(j + n) - h);
             }
             Candidate::NotValid(n) => {
-                let taken = scan::most(end, j + n);
+                let taken = end.max(j + n);
                 let on = pass(held, piece, base, stop, j + 1, taken, &sums);
                 end = on.end;
                 i = on.place;
@@ -95,7 +95,7 @@ pub(crate) fn pass(
     ensures { Passes (framing_of 0) held.now piece.now from first result.place result.end }
 {
     let h = held.len();
-    let last = stop - scan::least(stop, 1028);
+    let last = stop.saturating_sub(1028);
     let mut i = from;
     let mut end = first;
     while i < last {
@@ -112,7 +112,7 @@ pub(crate) fn pass(
         if sums[at] == sums[at + n + 6] {
             return Passed { place: i, end };
         }
-        end = scan::most(end, j + n + 6);
+        end = end.max(j + n + 6);
         i = j + 1;
     }
     Passed { place: i, end }
@@ -123,9 +123,7 @@ pub(crate) fn data_length(piece: &[u8], i: usize) -> usize
     requires { i + 3 ≤ length piece.now }
     ensures { (result ≡ data_length (drop i piece.now)) × (result < 1024) }
 {
-    let a = frame::wide(piece[i + 1]);
-    let b = frame::wide(piece[i + 2]);
-    ((a * 0x100 + b) % 1024) as usize
+    (piece[i + 1] as usize * 0x100 + piece[i + 2] as usize) % 1024
 }
 
 // The same for both kinds.
@@ -160,10 +158,10 @@ fn find_by(
                 return Searched::More(j);
             }
             Candidate::Good(n) => {
-                return Searched::Frame(j, n, scan::most(end, j + n) - h);
+                return Searched::Frame(j, n, end.max(j + n) - h);
             }
             Candidate::NotValid(n) => {
-                let taken = scan::most(end, j + n);
+                let taken = end.max(j + n);
                 let on = pass_both(held, piece, at, mode, j + 1, taken, &sums, runs);
                 end = on.end;
                 i = on.place;
@@ -199,18 +197,17 @@ pub(crate) fn pass_both(
         if all <= j {
             return Passed { place: i, end };
         }
-        let n = failing(held, piece, at, j, mode, sums, runs);
-        if n == 0 {
+        let Some(n) = failing(held, piece, at, j, mode, sums, runs) else {
             return Passed { place: i, end };
-        }
-        end = scan::most(end, j + n);
+        };
+        end = end.max(j + n);
         i = j + 1;
     }
     Passed { place: i, end }
 }
 
 // By how many bytes the check of the start byte at place i of the piece fails, if a window reaches as far as a candidate
-// can; or 0.
+// can.
 fn failing(
     held: &[u8],
     piece: &[u8],
@@ -219,9 +216,9 @@ fn failing(
     mode: u32,
     sums: &[u32],
     runs: &[u32],
-) -> usize
+) -> Option<usize>
     requires { (length held.now ≤ i) × (i < length held.now + length piece.now) × (length held.now + length piece.now < 2 ^ 64) × (starts_in mode (get_or (held.now ++ piece.now) i 0) ≡ true) × (at.base ≤ i) × (at.ubx_base ≤ i) × Ready mode (held.now ++ piece.now) sums.now runs.now at.base at.stop at.ubx_base at.ubx_stop }
-    ensures { (result ≡ 0 → ⊥) → NotValid result ≡ candidate (framing_of mode) (drop i (held.now ++ piece.now)) }
+    ensures { IfSome result (λ n. NotValid n ≡ candidate (framing_of mode) (drop i (held.now ++ piece.now))) }
 {
     if piece[i - held.len()] == 0xB5 {
         return ubx_failing(held, piece, at.ubx_base, at.ubx_stop, i, runs);
@@ -237,50 +234,55 @@ fn rtcm_failing(
     stop: usize,
     i: usize,
     sums: &[u32],
-) -> usize
+) -> Option<usize>
     requires { (length held.now ≤ i) × (i < length held.now + length piece.now) × (length held.now + length piece.now < 2 ^ 64) × (get_or (held.now ++ piece.now) i 0 ≡ 0xD3) × (base ≤ i) × Tails (held.now ++ piece.now) sums.now base stop }
-    ensures { (result ≡ 0 → ⊥) → NotValid result ≡ candidate rtcm (drop i (held.now ++ piece.now)) }
+    ensures { IfSome result (λ n. NotValid n ≡ candidate rtcm (drop i (held.now ++ piece.now))) }
 {
-    if stop - scan::least(stop, 1028) <= i {
-        return 0;
+    if stop.saturating_sub(1028) <= i {
+        return None;
     }
     let n = data_length(piece, i - held.len());
     let place = i - base;
     if sums[place] == sums[place + n + 6] {
-        return 0;
+        return None;
     }
-    n + 6
+    Some(n + 6)
 }
 
 // The same of a B5.
-fn ubx_failing(held: &[u8], piece: &[u8], base: usize, stop: usize, i: usize, runs: &[u32]) -> usize
+fn ubx_failing(
+    held: &[u8],
+    piece: &[u8],
+    base: usize,
+    stop: usize,
+    i: usize,
+    runs: &[u32],
+) -> Option<usize>
     requires { (length held.now ≤ i) × (i < length held.now + length piece.now) × (length held.now + length piece.now < 2 ^ 64) × (get_or (held.now ++ piece.now) i 0 ≡ 0xB5) × (base ≤ i) × Runs (held.now ++ piece.now) runs.now base stop }
-    ensures { (result ≡ 0 → ⊥) → NotValid result ≡ candidate ubx (drop i (held.now ++ piece.now)) }
+    ensures { IfSome result (λ n. NotValid n ≡ candidate ubx (drop i (held.now ++ piece.now))) }
 {
-    if stop - scan::least(stop, 1028) <= i {
-        return 0;
+    if stop.saturating_sub(1028) <= i {
+        return None;
     }
     let d = i - held.len();
     if piece[d + 1] != 0x62 {
-        return 2;
+        return Some(2);
     }
-    let low = frame::wide(piece[d + 4]);
-    let high = frame::wide(piece[d + 5]);
-    let n = (low + high * 256) as usize;
+    let n = piece[d + 4] as usize + piece[d + 5] as usize * 256;
     if 1021 < n {
-        return 6;
+        return Some(6);
     }
     failed_by(sums_in(held, piece, base, stop, i, n, runs))
 }
 
-// The bytes by which a candidate is not valid; or 0.
-fn failed_by(found: Candidate) -> usize
-    ensures { (result ≡ 0 → ⊥) → found ≡ NotValid result }
+// The bytes by which a candidate is not valid, if it is not.
+fn failed_by(found: Candidate) -> Option<usize>
+    ensures { IfSome result (λ n. found ≡ NotValid n) }
 {
     match found {
-        Candidate::Incomplete => 0,
-        Candidate::NotValid(n) => n,
-        Candidate::Good(_) => 0,
+        Candidate::Incomplete => None,
+        Candidate::NotValid(n) => Some(n),
+        Candidate::Good(_) => None,
     }
 }
 
@@ -297,7 +299,7 @@ pub(crate) fn cover(
     requires { (i < length held.now + length piece.now) × (length held.now + length piece.now < 2 ^ 64) × (length sums.old ≡ 4097) × (base ≤ i) × Tails (held.now ++ piece.now) sums.old base stop }
     ensures { (result.base ≤ i) × (i + min (length held.now + length piece.now - i) 1029 ≤ result.stop) × Tails (held.now ++ piece.now) sums.new result.base result.stop × (length sums.new ≡ 4097) }
 {
-    let need = scan::least(held.len() + piece.len() - i, 1029);
+    let need = (held.len() + piece.len() - i).min(1029);
     if i + need <= stop {
         return Window { base, stop };
     }
@@ -310,7 +312,7 @@ pub(crate) fn open(held: &[u8], piece: &[u8], i: usize, size: usize, sums: &mut 
     ensures { (result.base ≡ i) × (result.stop ≡ i + min size (length held.now + length piece.now - i)) × Tails (held.now ++ piece.now) sums.new result.base result.stop × (length sums.new ≡ 4097) }
 {
     let mut part = [0u8; 4096];
-    let n = scan::least(size, held.len() + piece.len() - i);
+    let n = size.min(held.len() + piece.len() - i);
     scanner::gather(&mut part, held, piece, i, n);
     window::tails(&part[0..n], sums);
     Window {
@@ -415,7 +417,7 @@ fn cover_runs(
     requires { (i < length held.now + length piece.now) × (length held.now + length piece.now < 2 ^ 64) × (length runs.old ≡ 4097) × (base ≤ i) × Runs (held.now ++ piece.now) runs.old base stop }
     ensures { (result.base ≤ i) × (i + min (length held.now + length piece.now - i) 1029 ≤ result.stop) × Runs (held.now ++ piece.now) runs.new result.base result.stop × (length runs.new ≡ 4097) }
 {
-    let asked = scan::least(held.len() + piece.len() - i, 1029);
+    let asked = (held.len() + piece.len() - i).min(1029);
     if i + asked <= stop {
         return Window { base, stop };
     }
@@ -428,7 +430,7 @@ fn open_runs(held: &[u8], piece: &[u8], i: usize, runs: &mut [u32]) -> Window
     ensures { (result.base ≡ i) × (result.stop ≡ i + min 4096 (length held.now + length piece.now - i)) × Runs (held.now ++ piece.now) runs.new result.base result.stop × (length runs.new ≡ 4097) }
 {
     let mut bytes = [0u8; 4096];
-    let n = scan::least(4096, held.len() + piece.len() - i);
+    let n = (held.len() + piece.len() - i).min(4096);
     scanner::gather(&mut bytes, held, piece, i, n);
     ubx::runs(&bytes[0..n], runs);
     Window {
@@ -442,11 +444,11 @@ fn ubx_in(held: &[u8], piece: &[u8], base: usize, stop: usize, i: usize, runs: &
     requires { (i < length held.now + length piece.now) × (length held.now + length piece.now < 2 ^ 64) × (get_or (held.now ++ piece.now) i 0 ≡ 0xB5) × (base ≤ i) × (i + min (length held.now + length piece.now - i) 1029 ≤ stop) × Runs (held.now ++ piece.now) runs.now base stop }
     ensures { result ≡ candidate ubx (drop i (held.now ++ piece.now)) }
 {
-    match ubx::claim(held, piece, i) {
-        Candidate::Incomplete => Candidate::Incomplete,
-        Candidate::NotValid(n) => Candidate::NotValid(n),
-        Candidate::Good(n) => sums_in(held, piece, base, stop, i, n - 8, runs),
-    }
+    let claimed = ubx::claim(held, piece, i);
+    let Candidate::Good(n) = claimed else {
+        return claimed;
+    };
+    sums_in(held, piece, base, stop, i, n - 8, runs)
 }
 
 // The check of a UBX frame at place i that is whole, with n bytes of payload. Its sums are what takes those up to its class

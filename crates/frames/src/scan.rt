@@ -1,7 +1,7 @@
 // The whole-stream scan as a call, and the search for a frame that it shares with the scanner.
 //
 // The search looks at bytes that are held and a piece behind them as one stream, which is nowhere copied together.
-ghost use Rattle.std.specs.Prelude.{◌≡◌, true, [], ◌++◌, ◌+◌, ◌*◌, ◌^◌, ◌≤◌, ◌<◌, min, max, length, get_or, take, drop};
+ghost use Rattle.std.specs.Prelude.{◌≡◌, true, [], ◌++◌, ◌+◌, ◌*◌, ◌^◌, ◌≤◌, ◌<◌, length, get_or, take, drop};
 ghost use Rattle.bits.specs.Field.{field};
 ghost use Rattle.bits.specs.Crc.{crc};
 ghost use Rattle.frames.specs.Framing.{decide};
@@ -14,7 +14,7 @@ ghost use Rattle.frames.specs.Answers.{told_next};
 ghost use Rattle.frames.specs.declared.scan.Candidate.TheVariants.{Incomplete};
 ghost use Rattle.frames.specs.Steps.{starts_rtcm, starts_either, starts_in, Start, candidate, searched, among};
 
-use crate::{frame, many, ubx};
+use crate::{many, ubx};
 use bits::crc;
 
 // What the scan comes to next: a frame, with its place and its length; or the place from which on the bytes are held.
@@ -50,7 +50,7 @@ pub(crate) enum Searched {
 }
 
 // The first frame of the held bytes with the piece behind them: in mode 0 of RTCM, else of either kind. A call for RTCM has
-// a search of its own, in which each step is called in one place, so that the compiler puts it there.
+// a copy of the search of its own, in which the mode is known.
 pub(crate) fn find_frame(held: &[u8], piece: &[u8], mode: u32) -> Searched
     requires { length held.now + length piece.now < 2 ^ 64 }
     ensures { result ≡ searched (feed (decide (framing_of mode)) held.now piece.now) }
@@ -59,7 +59,7 @@ pub(crate) fn find_frame(held: &[u8], piece: &[u8], mode: u32) -> Searched
         if still_waits(held, piece) {
             return Searched::More(0);
         }
-        return first_rtcm(held, piece);
+        return first_frame(held, piece, 0);
     }
     first_frame(held, piece, mode)
 }
@@ -78,59 +78,9 @@ fn still_waits(held: &[u8], piece: &[u8]) -> bool
     held.len() + piece.len() < many::data_length(held, 0) + 6
 }
 
-// The first frame of RTCM. Each candidate's sum is taken by itself, until those that failed are many for the way that was
+// The first frame in a mode. Each candidate's sum is taken by itself, until those that failed are many for the way that was
 // made; from there on a window decides.
-fn first_rtcm(held: &[u8], piece: &[u8]) -> Searched
-    requires { length held.now + length piece.now < 2 ^ 64 }
-    ensures { result ≡ searched (feed (decide (framing_of 0)) held.now piece.now) }
-{
-    let h = held.len();
-    let all = h + piece.len();
-    let mut i: usize = 0;
-    let mut end = h;
-    let mut failed: usize = 0;
-    while i < all {
-        if 64 + i / 64 < failed {
-            return many::find_on(held, piece, 0, i, end);
-        }
-        let j = next_rtcm(held, piece, i);
-        if all <= j {
-            return Searched::More(j);
-        }
-        match rtcm_at(held, piece, j) {
-            Candidate::Incomplete => {
-                return Searched::More(j);
-            }
-            Candidate::Good(n) => {
-                return Searched::Frame(j, n, most(end, j + n) - h);
-            }
-            Candidate::NotValid(n) => {
-                end = most(end, j + n);
-                failed += 1;
-                i = j + 1;
-            }
-        }
-    }
-    Searched::More(i)
-}
-
-// The place of the first D3 from place i on, or the end.
-fn next_rtcm(held: &[u8], piece: &[u8], i: usize) -> usize
-    requires { (i ≤ length held.now + length piece.now) × (length held.now + length piece.now < 2 ^ 64) }
-    ensures { Start starts_rtcm (held.now ++ piece.now) i result }
-{
-    let h = held.len();
-    if h <= i {
-        return h + next_d3(piece, i - h);
-    }
-    let j = next_d3(held, i);
-    if j < h {
-        return j;
-    }
-    h + next_d3(piece, 0)
-}
-
-// The first frame in any mode, in the same way.
+#[inline(always)]
 fn first_frame(held: &[u8], piece: &[u8], mode: u32) -> Searched
     requires { length held.now + length piece.now < 2 ^ 64 }
     ensures { result ≡ searched (feed (decide (framing_of mode)) held.now piece.now) }
@@ -153,10 +103,10 @@ fn first_frame(held: &[u8], piece: &[u8], mode: u32) -> Searched
                 return Searched::More(start);
             }
             Candidate::Good(n) => {
-                return Searched::Frame(start, n, most(end, start + n) - h);
+                return Searched::Frame(start, n, end.max(start + n) - h);
             }
             Candidate::NotValid(n) => {
-                end = most(end, start + n);
+                end = end.max(start + n);
                 failed += 1;
                 i = start + 1;
             }
@@ -187,6 +137,7 @@ pub(crate) fn find_at_end(held: &[u8], mode: u32) -> Searched
 }
 
 // The place of the first byte from place i on that starts a frame in the mode, or the end.
+#[inline(always)]
 pub(crate) fn next_start(held: &[u8], piece: &[u8], i: usize, mode: u32) -> usize
     requires { (i ≤ length held.now + length piece.now) × (length held.now + length piece.now < 2 ^ 64) }
     ensures { Start (starts_in mode) (held.now ++ piece.now) i result }
@@ -203,6 +154,7 @@ pub(crate) fn next_start(held: &[u8], piece: &[u8], i: usize, mode: u32) -> usiz
 }
 
 // The place of the first byte of a part from a place on that starts a frame in the mode, or its end.
+#[inline(always)]
 fn next_in(part: &[u8], from: usize, mode: u32) -> usize
     requires { from ≤ length part.now }
     ensures { Start (starts_in mode) part.now from result }
@@ -239,14 +191,12 @@ fn near_d3(part: &[u8], from: usize) -> usize
     requires { from ≤ length part.now }
     ensures { Start starts_rtcm part.now from result }
 {
-    let mut i = from;
-    while i < part.len() {
+    for i in from..part.len() {
         if part[i] == 0xD3 {
             return i;
         }
-        i += 1;
     }
-    i
+    part.len()
 }
 
 // The place of the first D3 or B5 of a part from a place on, or its end.
@@ -272,17 +222,15 @@ fn near_either(part: &[u8], from: usize) -> usize
     requires { from ≤ length part.now }
     ensures { Start starts_either part.now from result }
 {
-    let mut i = from;
-    while i < part.len() {
+    for i in from..part.len() {
         if part[i] == 0xB5 {
             return i;
         }
         if part[i] == 0xD3 {
             return i;
         }
-        i += 1;
     }
-    i
+    part.len()
 }
 
 // Whether one of the sixteen bytes from place i on is x. In this form all sixteen are compared at once.
@@ -317,6 +265,7 @@ pub(crate) enum Candidate {
 }
 
 // The check of the start byte at place i: in mode 0 that of RTCM, else that of its kind.
+#[inline(always)]
 pub(crate) fn candidate_at(held: &[u8], piece: &[u8], i: usize, mode: u32) -> Candidate
     requires { (i < length held.now + length piece.now) × (length held.now + length piece.now < 2 ^ 64) × (starts_in mode (get_or (held.now ++ piece.now) i 0) ≡ true) }
     ensures { result ≡ candidate (framing_of mode) (drop i (held.now ++ piece.now)) }
@@ -360,7 +309,7 @@ fn sum_of(held: &[u8], piece: &[u8], i: usize, n: usize) -> u32
         let j = i - h;
         return crc::crc24q(&piece[j..j + n]);
     }
-    let m = least(h - i, n);
+    let m = (h - i).min(n);
     crc::crc24q_from(crc::crc24q(&held[i..i + m]), &piece[0..n - m])
 }
 
@@ -382,19 +331,7 @@ pub(crate) fn byte_at(held: &[u8], piece: &[u8], i: usize) -> u32
 {
     let h = held.len();
     if i < h {
-        return frame::wide(held[i]);
+        return held[i] as u32;
     }
-    frame::wide(piece[i - h])
-}
-
-pub(crate) fn least(a: usize, b: usize) -> usize
-    ensures { result ≡ min a b }
-{
-    if a < b { a } else { b }
-}
-
-pub(crate) fn most(a: usize, b: usize) -> usize
-    ensures { result ≡ max a b }
-{
-    if a < b { b } else { a }
+    piece[i - h] as u32
 }

@@ -185,7 +185,7 @@ pub(crate) fn gather(out: &mut [u8], held: &[u8], piece: &[u8], i: usize, n: usi
         frame::put_at(&piece[j..j + n], out, 0);
         return;
     }
-    let m = scan::least(h - i, n);
+    let m = (h - i).min(n);
     frame::put_at(&held[i..i + m], out, 0);
     frame::put_at(&piece[0..n - m], out, m);
 }
@@ -218,9 +218,5 @@ pub(crate) fn shift(held: &mut [u8], i: usize, n: usize)
     requires { i + n ≤ length held.old }
     ensures { held.new ≡ take n (drop i held.old) ++ drop n held.old }
 {
-    let mut k: usize = 0;
-    while k < n {
-        held[k] = held[i + k];
-        k += 1;
-    }
+    held.copy_within(i..i + n, 0);
 }

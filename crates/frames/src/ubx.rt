@@ -4,8 +4,8 @@ ghost use Rattle.std.specs.Prelude.{◌≡◌, ◌++◌, ◌+◌, ◌^◌, ◌�
 ghost use Rattle.frames.specs.Ubx.{ubx, sums, sums_from};
 ghost use Rattle.frames.specs.Steps.{candidate, Whole, Claim, Summed};
 
+use crate::scan;
 use crate::scan::Candidate;
-use crate::{frame, scan};
 
 // The two running sums, each modulo 256: of the bytes, and of the first sum after each byte.
 #[derive(Clone, Copy)]
@@ -20,11 +20,11 @@ pub(crate) fn ubx_at(held: &[u8], piece: &[u8], i: usize) -> Candidate
     requires { (i < length held.now + length piece.now) × (length held.now + length piece.now < 2 ^ 64) × (get_or (held.now ++ piece.now) i 0 ≡ 0xB5) }
     ensures { result ≡ candidate ubx (drop i (held.now ++ piece.now)) }
 {
-    match claim(held, piece, i) {
-        Candidate::Incomplete => Candidate::Incomplete,
-        Candidate::NotValid(n) => Candidate::NotValid(n),
-        Candidate::Good(n) => by_sums(held, piece, i, n - 8),
-    }
+    let claimed = claim(held, piece, i);
+    let Candidate::Good(n) = claimed else {
+        return claimed;
+    };
+    by_sums(held, piece, i, n - 8)
 }
 
 // What the B5 at place i and the five bytes behind it claim: that it starts no frame, or one that is not there yet; or a
@@ -84,7 +84,7 @@ fn sums_of(held: &[u8], piece: &[u8], i: usize, n: usize) -> Sums
         let j = i - h;
         return sums_from(none, &piece[j..j + n]);
     }
-    let m = scan::least(h - i, n);
+    let m = (h - i).min(n);
     sums_from(sums_from(none, &held[i..i + m]), &piece[0..n - m])
 }
 
@@ -95,11 +95,9 @@ fn sums_from(start: Sums, bytes: &[u8]) -> Sums
 {
     let mut first = start.first;
     let mut second = start.second;
-    let mut i: usize = 0;
-    while i < bytes.len() {
-        first = (first + frame::wide(bytes[i])) % 256;
+    for &byte in bytes {
+        first = (first + byte as u32) % 256;
         second = (second + first) % 256;
-        i += 1;
     }
     Sums { first, second }
 }
@@ -111,12 +109,10 @@ pub(crate) fn runs(part: &[u8], out: &mut [u32])
 {
     let mut first: u32 = 0;
     let mut second: u32 = 0;
-    let mut k: usize = 0;
     out[0] = 0;
-    while k < part.len() {
-        first = (first + frame::wide(part[k])) % 256;
+    for (k, &byte) in part.iter().enumerate() {
+        first = (first + byte as u32) % 256;
         second = (second + first) % 256;
-        k += 1;
-        out[k] = second * 256 + first;
+        out[k + 1] = second * 256 + first;
     }
 }

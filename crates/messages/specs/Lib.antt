@@ -18,7 +18,9 @@ pub mod InOrder
 pub mod Satellites1059
 pub mod I16
 pub mod StepsPen
+pub mod StepsFault
 pub mod StepsColumns
+pub mod StepsEdition
 pub mod StepsRead
 pub mod StepsRead1059
 pub mod StepsRead1230

@@ -1,94 +1,101 @@
-// Text that is gathered in a lent area and then written to standard output.
+// Text that is gathered in an area of fixed size and then written.
 //
-// The first `at` bytes of the area wait to be written. Where more do not fit behind them they are written first, so that
-// no byte is lost; a program that is to stop where its output cannot be written flushes before that. `specs/` says what each function leaves in the area.
+// Where more does not fit behind the bytes that wait, they are written first, so that no byte is lost; a program that is to
+// stop where its output cannot be written flushes before that. `specs/` says what each function leaves in the area.
 #![tactic(auto)]
 
-ghost use Rattle.std.specs.Prelude.{◌≡◌, ◌+◌, ◌≤◌, min, length, nat_le};
-ghost use Rattle.bits.specs.Onto.{over};
+ghost use Rattle.std.specs.Prelude.{◌≡◌};
 ghost use Rattle.printing.specs.Gathered.{gathered, add, blank};
 
-mod failing;
 mod number;
+mod terminal;
 
-pub use failing::{fail, say};
-pub use number::{Amount, amount_of, hex, hundredths, phrase, signed, unsigned};
-use std::io::Print;
+pub use number::Amount;
+use std::marker::Model;
+pub use terminal::{Sink, Terminal, Unwritten};
 
-// Adds the text.
-#[tactic(auto, unfolding(crate::specs::Gathered::add))]
-pub fn text(rt: &HostRuntime, out: &mut [u8; 65536], at: &mut usize, words: &[u8])
-    ensures { gathered out.new at.new ≡ add words.now (gathered out.old at.old) }
-{
-    let n = words.len();
-    let waiting = *at;
-    if has_room(waiting, n) {
-        put_at(words, out, waiting);
-        *at = waiting + n;
-        return;
-    }
-    flush(rt, out, at);
-    if has_room(0, n) {
-        put_at(words, out, 0);
-        *at = n;
-        return;
-    }
-    write(rt, words);
+const ROOM: usize = 65536;
+
+// Text on its way to a sink. The first `waiting` bytes of the area wait to be written.
+#[derive(Drop)]
+pub struct Output<S> {
+    sink: S,
+    area: [u8; 65536],
+    waiting: usize,
 }
 
-// Adds so many blanks, at most 64.
-pub fn blanks(rt: &HostRuntime, out: &mut [u8; 65536], at: &mut usize, n: usize)
-    ensures { gathered out.new at.new ≡ add (blank n) (gathered out.old at.old) }
-{
-    let line = [b' '; 64];
-    text(rt, out, at, &line[..least(n, 64)]);
+impl<S> Model for Output<S> {
+    ghost use Rattle.std.specs.Prelude.{◌≤◌};
+    ghost use Rattle.printing.specs.Gathered.{Gathered, gathered};
+
+    ghost Value = { Gathered };
+
+    ghost view = { λ s. gathered s.area s.waiting };
+
+    ghost invariant = { λ s. s.waiting ≤ 65536 };
 }
 
-// Writes what waits. Where it cannot be written, that is said on standard error, and the answer is false.
-pub fn flush(rt: &HostRuntime, out: &[u8; 65536], at: &mut usize) -> bool
-    ensures { at.new ≡ 0 }
-{
-    let n = *at;
-    *at = 0;
-    write_first(rt, out, n)
-}
-
-// Writes the first n bytes, or all if there are fewer.
-fn write_first(rt: &HostRuntime, out: &[u8], n: usize) -> bool {
-    write(rt, &out[0..least(n, out.len())])
-}
-
-// Writes the words to standard output. Where they cannot be written, that is said on standard error, and the answer is false.
-fn write(rt: &HostRuntime, words: &[u8]) -> bool {
-    match Print::write_all(rt, words) {
-        Ok(()) => true,
-        Err(error) => {
-            fail(rt, b"standard output", &error);
-            false
+impl<S: Sink> Output<S> {
+    // Nothing waits at first.
+    pub fn new(sink: S) -> Output<S>
+        ensures { result.waiting ≡ 0 }
+    {
+        Output {
+            sink,
+            area: [0; 65536],
+            waiting: 0,
         }
     }
-}
 
-// Whether n bytes fit behind those that wait.
-fn has_room(waiting: usize, n: usize) -> bool
-    ensures { result ≡ nat_le (waiting + n) 65536 }
-{
-    if 65536 < waiting {
-        return false;
+    // How many bytes wait.
+    pub fn waiting(&self) -> usize
+        ensures { result ≡ self.now.waiting }
+    {
+        self.waiting
     }
-    if n <= 65536 - waiting { true } else { false }
-}
 
-// Writes the part over the output from byte i on.
-fn put_at(part: &[u8], out: &mut [u8], i: usize)
-    requires { i + length part.now ≤ length out.old }
-    ensures { out.new ≡ over i part.now out.old }
-{
-    out[i..i + part.len()].copy_from_slice(part);
-}
+    // Adds the text.
+    pub fn text(&mut self, words: &str)
+        ensures { self.new ≡ add words.now self.old }
+    {
+        self.bytes(words.as_bytes());
+    }
 
-fn least(a: usize, b: usize) -> usize
-    ensures { result ≡ min a b }
-{
-    if a < b { a } else { b }
+    // Adds the bytes, which need not be text.
+    #[tactic(auto, unfolding(crate::specs::Gathered::add))]
+    pub fn bytes(&mut self, words: &[u8])
+        ensures { self.new ≡ add words.now self.old }
+    {
+        let n = words.len();
+        if n <= ROOM - self.waiting {
+            let end = self.waiting + n;
+            self.area[self.waiting..end].copy_from_slice(words);
+            self.waiting = end;
+            return;
+        }
+        let _ = self.flush();
+        if n <= ROOM {
+            self.area[..n].copy_from_slice(words);
+            self.waiting = n;
+            return;
+        }
+        let _ = self.sink.put(words);
+    }
+
+    // Adds so many blanks, at most 64.
+    pub fn blanks(&mut self, n: usize)
+        ensures { self.new ≡ add (blank n) self.old }
+    {
+        let line = [b' '; 64];
+        self.bytes(&line[..n.min(64)]);
+    }
+
+    // Writes what waits.
+    pub fn flush(&mut self) -> Result<(), Unwritten>
+        ensures { self.new ≡ gathered self.old.area 0 }
+    {
+        let n = self.waiting;
+        self.waiting = 0;
+        self.sink.put(&self.area[..n])
+    }
 }

@@ -1,5 +1,6 @@
 pub mod SumLaws
 pub mod AccountLaws
+pub mod StepLaws
 pub mod NumberLaws
 pub mod ArgumentLaws
 pub mod AskedLaws

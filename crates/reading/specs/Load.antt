@@ -1,9 +1,8 @@
 -- What a file comes to that is read whole. Assumes nothing.
-use Rattle.std.specs.Prelude.{◌≤◌}
-use Rattle.reading.specs.declared.load.Loaded.{Loaded}
-use Rattle.reading.specs.declared.load.Loaded.TheVariants.{Bytes, Failed}
+use Rattle.std.specs.Prelude.{ℕ, ◌≤◌, Result, Ok, Err}
+use Rattle.reading.specs.declared.program.Failure.{Failure}
 
 -- no more bytes than the area has
-abbrev pub Fits : Loaded → Type 0
-Fits (Bytes n) = n ≤ 65536
-Fits Failed = Unit
+abbrev pub Fits : Result ℕ Failure → Type 0
+Fits (Ok n) = n ≤ 65536
+Fits (Err e) = Unit

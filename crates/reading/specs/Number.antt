@@ -1,5 +1,6 @@
 -- A frame that is handed out, and its message number. Assumes nothing.
-use Rattle.std.specs.Prelude.{ℕ, cond, List, [], length, take, nat_lt}
+use Rattle.std.specs.Prelude.{ℕ, cond, List, [], length, take, nat_lt, Some, None}
+use Rattle.std.specs.Prelude as P
 use Rattle.std.proofs.Math.Option.{Option, none, some}
 use Rattle.frames.specs.Frame.{number_of, inside_part}
 
@@ -7,11 +8,11 @@ use Rattle.frames.specs.Frame.{number_of, inside_part}
 abbrev pub frame_in : List ℕ → ℕ → List ℕ
 frame_in s n = cond (nat_lt (length s) n) [] (take n s)
 
--- a message number; 4,096, which no 12 bits are, if there is none
-abbrev pub or_none : Option ℕ → ℕ
-or_none none = 4096
-or_none (some n) = n
+-- a message number, or that there is none
+abbrev pub told_option : P.Option ℕ → Option ℕ
+told_option None = none
+told_option (Some n) = some n
 
 -- the message number of a frame's data
-abbrev pub number_in : List ℕ → ℕ
-number_in f = or_none (number_of (inside_part f).bytes)
+abbrev pub number_in : List ℕ → Option ℕ
+number_in f = number_of (inside_part f).bytes

@@ -2,61 +2,53 @@
 ghost use Rattle.std.specs.Prelude.{◌≤◌};
 ghost use Rattle.reading.specs.Load.{Fits};
 
-use crate::arguments::{Kind, named, open};
-use crate::{Source, asked};
-use printing::{fail, say};
+use crate::arguments::Kind;
+use crate::{Failure, Program, Source, asked};
+use std::env::Env;
+use std::fs::{File, Files};
 
-// What reading it came to.
-#[derive(Clone, Copy)]
-pub enum Loaded {
-    // So many bytes, at the front of the area.
-    Bytes(usize),
-    // It could not be read, or is longer than the area. That is said.
-    Failed,
-}
-
-// Reads what argument i names, where the place of `--` is `rest`.
-pub fn load(rt: &HostRuntime, i: usize, rest: usize, area: &mut [u8; 65536]) -> Loaded
+// Reads what argument i names, where `rest` is the place of `--`, and answers how many bytes stand at the front of the area
+// then. Where it cannot be read, or is longer than the area, that is said.
+pub fn load(
+    rt: &(impl Env + Files<File = File>),
+    program: &Program,
+    i: usize,
+    rest: Option<usize>,
+    area: &mut [u8; 65536],
+) -> Result<usize, Failure>
     ensures { Fits result }
 {
-    let mut word = [0u8; 4096];
-    let Some(n) = named(rt, i, &mut word) else {
-        return Loaded::Failed;
-    };
-    match asked::kind_of(&word[..n], i, rest) {
-        Kind::Input => load_open(rt, &mut Source::Input(rt.stdin()), b"standard input", area),
-        _ => load_path(rt, &word[..n], area),
-    }
-}
-
-fn load_path(rt: &HostRuntime, path: &[u8], area: &mut [u8; 65536]) -> Loaded
-    ensures { Fits result }
-{
-    match open(rt, path) {
-        Some(mut source) => load_open(rt, &mut source, path, area),
-        None => Loaded::Failed,
+    let word = program.word(rt, i)?;
+    let path = word.bytes();
+    match asked::kind_of(path, i, rest) {
+        Kind::Input => load_open(program, program.input(), b"standard input", area),
+        _ => load_open(program, program.open(rt, path)?, path, area),
     }
 }
 
 // Reads until the area is full or nothing more comes, and once more, which tells the end from a failure and from a longer
 // file.
-fn load_open(rt: &HostRuntime, source: &mut Source, name: &[u8], area: &mut [u8; 65536]) -> Loaded
+fn load_open(
+    program: &Program,
+    mut source: Source,
+    name: &[u8],
+    area: &mut [u8; 65536],
+) -> Result<usize, Failure>
     ensures { Fits result }
 {
-    let n = read_full(source, area);
+    let n = read_full(&mut source, area);
     let mut more = [0u8; 4096];
     match source.read(&mut more) {
-        Ok(0) => Loaded::Bytes(n),
+        Ok(0) => return Ok(n),
         Ok(_) => {
-            say(rt, name);
-            say(rt, b": is longer than 65,536 bytes, or came with a pause\n");
-            Loaded::Failed
+            program.terminal().say_bytes(name);
+            program
+                .terminal()
+                .say(": is longer than 65,536 bytes, or came with a pause\n");
         }
-        Err(error) => {
-            fail(rt, name, &error);
-            Loaded::Failed
-        }
+        Err(error) => program.terminal().fail(name, &error),
     }
+    Err(Failure::Unread)
 }
 
 // Reads until the area is full, the input ends or a read fails, and answers how many bytes came.

@@ -1,6 +1,6 @@
 // A frame that is handed out, and its message number, taken from its own bytes with no check.
 ghost use Rattle.std.specs.Prelude.{◌≡◌};
-ghost use Rattle.reading.specs.Number.{frame_in, number_in};
+ghost use Rattle.reading.specs.Number.{frame_in, number_in, told_option};
 
 use frames::frame;
 use frames::frame::Number;
@@ -9,18 +9,15 @@ use frames::frame::Number;
 pub fn frame_of(area: &[u8], length: usize) -> &[u8]
     ensures { result.now ≡ frame_in area.now length }
 {
-    if area.len() < length {
-        return &area[0..0];
-    }
-    &area[0..length]
+    area.get(..length).unwrap_or(&[])
 }
 
-// The message number of a frame; 4,096 if its data are fewer than two bytes.
-pub fn number_of(frame: &[u8]) -> u64
-    ensures { result ≡ number_in frame.now }
+// The message number of a frame; none if its data are fewer than two bytes.
+pub fn number_of(frame: &[u8]) -> Option<u16>
+    ensures { told_option result ≡ number_in frame.now }
 {
     match frame::number_of(frame::data_of(frame)) {
-        Number::Is(number) => number as u64,
-        Number::Absent => 4096,
+        Number::Is(number) => Some(number),
+        Number::Absent => None,
     }
 }

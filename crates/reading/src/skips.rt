@@ -2,8 +2,6 @@
 ghost use Rattle.std.specs.Prelude.{◌≡◌, slice_index};
 ghost use Rattle.reading.specs.Skips.{byte_in, Counted};
 
-use std::num;
-
 // How many bytes were skipped that are neither D3 nor B5, that are D3, and that are B5. Sums go round at 2^64.
 #[derive(Clone, Copy)]
 pub struct Skips {
@@ -12,13 +10,35 @@ pub struct Skips {
     pub b5: u64,
 }
 
-pub fn none() -> Skips
-    ensures { result ≡ record { others = 0; d3 = 0; b5 = 0 } }
-{
-    Skips {
-        others: 0,
-        d3: 0,
-        b5: 0,
+impl Skips {
+    pub fn none() -> Skips
+        ensures { result ≡ record { others = 0; d3 = 0; b5 = 0 } }
+    {
+        Skips {
+            others: 0,
+            d3: 0,
+            b5: 0,
+        }
+    }
+
+    // One more byte that was skipped.
+    pub fn count(self, byte: u8) -> Skips
+        ensures { Counted self byte result }
+    {
+        match byte {
+            0xD3 => Skips {
+                d3: self.d3.wrapping_add(1),
+                ..self
+            },
+            0xB5 => Skips {
+                b5: self.b5.wrapping_add(1),
+                ..self
+            },
+            _ => Skips {
+                others: self.others.wrapping_add(1),
+                ..self
+            },
+        }
     }
 }
 
@@ -30,48 +50,15 @@ pub fn byte_at(area: &[u8], count: usize, piece: &[u8], from: usize, i: usize) -
     if i < count {
         return byte_or(area, i);
     }
-    let all = piece.len();
-    if all <= from {
-        return 0;
+    match from.checked_add(i - count) {
+        Some(j) => byte_or(piece, j),
+        None => 0,
     }
-    let j = i - count;
-    if all - from <= j {
-        return 0;
-    }
-    piece[from + j]
 }
 
 // The byte at a place; 0 if there is none.
 fn byte_or(bytes: &[u8], i: usize) -> u8
     ensures { result ≡ slice_index bytes.now i }
 {
-    if bytes.len() <= i {
-        return 0;
-    }
-    bytes[i]
-}
-
-// One more byte that was skipped.
-pub fn count(skips: Skips, byte: u8) -> Skips
-    ensures { Counted skips byte result }
-{
-    if byte == 0xD3 {
-        return Skips {
-            others: skips.others,
-            d3: num::wrapping_add_u64(skips.d3, 1),
-            b5: skips.b5,
-        };
-    }
-    if byte == 0xB5 {
-        return Skips {
-            others: skips.others,
-            d3: skips.d3,
-            b5: num::wrapping_add_u64(skips.b5, 1),
-        };
-    }
-    Skips {
-        others: num::wrapping_add_u64(skips.others, 1),
-        d3: skips.d3,
-        b5: skips.b5,
-    }
+    bytes.get(i).copied().unwrap_or(0)
 }

@@ -1,291 +1,159 @@
 // Shows the frames of recordings: a row for each, and an account of every byte, with why bytes were skipped.
 #![tactic(auto)]
 
-ghost use Rattle.std.specs.Prelude.{◌≡◌};
-ghost use Rattle.reading.specs.Account.{Right, AllTaken};
+ghost use Rattle.reading.specs.Account.{Right};
 
 mod options;
 mod table;
 
 use options::Ways;
+use printing::{Output, Terminal};
 use reading::arguments::Kind;
 use reading::skips::Skips;
-use reading::{Account, Source, Step, Taken, arguments, skips};
-use std::num;
-
-// What a recording, or all of them, came to.
-#[derive(Clone, Copy)]
-enum End {
-    // It goes on.
-    On,
-    Well,
-    // It could not be read to its end.
-    Failed,
-    // The output cannot be written: the program stops.
-    Stopped,
-}
-
-// The account of a recording, what was skipped, and what it came to.
-#[derive(Clone, Copy)]
-struct Scanned {
-    account: Account,
-    skips: Skips,
-    end: End,
-}
+use reading::{Before, Failure, Program, Recording, Source, arguments};
+use std::env::Env;
+use std::fs::{File, Files};
+use table::Numbers;
 
 fn main(rt: HostRuntime) {
-    let asked = options::all(&rt);
-    if asked.help {
-        options::help(&rt);
-        return;
-    }
-    if asked.version {
-        arguments::version(&rt, b"rtcm_scan");
-        return;
-    }
-    if asked.unknown != 0 {
-        arguments::unknown(&rt, b"rtcm_scan", asked.unknown);
-        arguments::failed(&rt, b"rtcm_scan");
-        return;
-    }
-    if asked.file == 0 {
-        arguments::no_file(&rt, b"rtcm_scan");
-        arguments::failed(&rt, b"rtcm_scan");
-        return;
-    }
-    let ways = Ways {
-        quiet: asked.quiet,
-        mode: asked.mode,
-    };
-    if !scan_all(&rt, ways, asked.rest) {
-        arguments::failed(&rt, b"rtcm_scan");
+    let terminal = Terminal::new(rt.stdout(), rt.stderr());
+    let program = Program::new("rtcm_scan", rt.stdin(), terminal);
+    if run(&rt, &program).is_err() {
+        program.failed();
     }
 }
 
-// Scans what the arguments name, one after another, and answers whether all went well.
-fn scan_all(rt: &HostRuntime, ways: Ways, rest: usize) -> bool {
-    let mut out = [0u8; 65536];
-    let mut at: usize = 0;
-    let mut is_well = true;
+// Does what the arguments ask.
+fn run(rt: &(impl Env + Files<File = File>), program: &Program) -> Result<(), Failure> {
+    let asked = options::all(rt);
+    if asked.help {
+        return program.tell(options::HELP);
+    }
+    if asked.version {
+        return program.version();
+    }
+    if let Some(i) = asked.unknown {
+        return Err(program.unknown(rt, i));
+    }
+    if asked.file.is_none() {
+        return Err(program.no_file());
+    }
+    scan_all(rt, program, asked.ways, asked.rest)
+}
+
+// Scans what the arguments name, one after another.
+fn scan_all(
+    rt: &(impl Env + Files<File = File>),
+    program: &Program,
+    ways: Ways,
+    rest: Option<usize>,
+) -> Result<(), Failure> {
+    let mut out = program.output();
+    let mut all = Ok(());
     for i in 1..arguments::count(rt) {
-        match scan_argument(rt, i, ways, rest, &mut out, &mut at) {
-            End::Failed => {
-                is_well = false;
-            }
-            End::Stopped => {
-                return false;
-            }
-            _ => {}
+        match scan_argument(rt, program, i, ways, rest, &mut out) {
+            Ok(()) => {}
+            Err(Failure::Unwritten) => return Err(Failure::Unwritten),
+            Err(failure) => all = Err(failure),
         }
     }
-    is_well
+    all
 }
 
 // Scans what argument i names.
 fn scan_argument(
-    rt: &HostRuntime,
+    rt: &(impl Env + Files<File = File>),
+    program: &Program,
     i: usize,
     ways: Ways,
-    rest: usize,
-    out: &mut [u8; 65536],
-    at: &mut usize,
-) -> End {
-    let mut word = [0u8; 4096];
-    let Some(n) = arguments::named(rt, i, &mut word) else {
-        return End::Failed;
-    };
-    match options::kind_of(&word[..n], i, rest) {
-        Kind::File => scan_path(rt, &word[..n], ways, out, at),
-        Kind::Input => scan_open(
-            rt,
-            &mut Source::Input(rt.stdin()),
-            b"standard input",
-            ways,
-            out,
-            at,
-        ),
-        _ => End::Well,
-    }
-}
-
-fn scan_path(
-    rt: &HostRuntime,
-    path: &[u8],
-    ways: Ways,
-    out: &mut [u8; 65536],
-    at: &mut usize,
-) -> End {
-    match arguments::open(rt, path) {
-        Some(mut source) => scan_open(rt, &mut source, path, ways, out, at),
-        None => End::Failed,
+    rest: Option<usize>,
+    out: &mut Output<Terminal>,
+) -> Result<(), Failure> {
+    let word = program.word(rt, i)?;
+    let path = word.bytes();
+    match options::kind_of(path, i, rest) {
+        Kind::File => scan_open(program, program.open(rt, path)?, path, ways, out),
+        Kind::Input => scan_open(program, program.input(), b"standard input", ways, out),
+        _ => Ok(()),
     }
 }
 
 // Scans an open recording, and writes its rows and its closing table.
 fn scan_open(
-    rt: &HostRuntime,
-    source: &mut Source,
+    program: &Program,
+    source: Source,
     name: &[u8],
     ways: Ways,
-    out: &mut [u8; 65536],
-    at: &mut usize,
-) -> End {
-    let mut numbers = [0u64; 4097];
-    let scanned = scan(rt, source, name, ways, &mut numbers, out, at);
-    let account = scanned.account;
-    let end = scanned.end;
-    if is_stopped(end) {
-        return End::Stopped;
+    out: &mut Output<Terminal>,
+) -> Result<(), Failure> {
+    let mut recording = Recording::new(source, name, program.terminal(), ways.mode);
+    let mut skips = Skips::none();
+    let mut numbers = Numbers::none();
+    let end = scan(&mut recording, ways, &mut skips, &mut numbers, out);
+    if let Err(Failure::Unwritten) = end {
+        return end;
     }
+    let account = recording.account();
     if account.bytes != 0 {
-        table::closing(rt, out, at, account, scanned.skips, &numbers);
+        table::closing(out, account, skips, &numbers);
     }
-    if !printing::flush(rt, out, at) {
-        return End::Stopped;
-    }
+    out.flush()?;
     end
 }
 
-fn is_on(end: End) -> bool {
-    match end {
-        End::On => true,
-        _ => false,
-    }
-}
-
-fn is_stopped(end: End) -> bool {
-    match end {
-        End::Stopped => true,
-        _ => false,
-    }
-}
-
-// Goes through the frames, each row being written when its frame has arrived, and hands back the account at the end,
-// which is right.
+// Goes through the frames, each row being written when its frame has arrived. The account at the end is right.
 fn scan(
-    rt: &HostRuntime,
-    source: &mut Source,
-    name: &[u8],
+    recording: &mut Recording,
     ways: Ways,
-    numbers: &mut [u64; 4097],
-    out: &mut [u8; 65536],
-    at: &mut usize,
-) -> Scanned
-    ensures { Right result.account }
+    skips: &mut Skips,
+    numbers: &mut Numbers,
+    out: &mut Output<Terminal>,
+) -> Result<(), Failure>
+    ensures { Right recording.new.account }
 {
-    let mut held = [0u8; 1029];
-    let mut piece = [0u8; 65536];
-    let mut frame = [0u8; 1029];
-    let mut now = over(reading::start_in(ways.mode), skips::none(), End::On);
     for _ in 0..u64::MAX {
-        now = turned(
-            rt, source, name, ways, now, &mut held, &mut piece, &mut frame, numbers, out, at,
-        );
-        let end = now.end;
-        if !is_on(end) {
-            return now;
+        let before = recording.before();
+        let found = recording.take()?;
+        *skips = skipped(*skips, recording, &before);
+        match found {
+            Some(found) => {
+                table::frame(out, ways, found, recording.frame(), numbers);
+                if !ways.quiet {
+                    out.flush()?;
+                }
+            }
+            None => {
+                if !is_read_on(recording, ways, out)? {
+                    return Ok(());
+                }
+            }
         }
     }
-    now
+    Ok(())
 }
 
-// One turn: a frame is shown, or the next piece is read.
-fn turned(
-    rt: &HostRuntime,
-    source: &mut Source,
-    name: &[u8],
+// Reads the next piece, and answers whether there is one. Before the first one stands the head of the table.
+fn is_read_on(
+    recording: &mut Recording,
     ways: Ways,
-    now: Scanned,
-    held: &mut [u8; 1029],
-    piece: &mut [u8; 65536],
-    frame: &mut [u8; 1029],
-    numbers: &mut [u64; 4097],
-    out: &mut [u8; 65536],
-    at: &mut usize,
-) -> Scanned
-    ensures { Right now.account → Right result.account }
-{
-    let before = *held;
-    match reading::take(held, piece, frame, now.account) {
-        Taken::Frame {
-            place,
-            length,
-            kind: _,
-            account: a,
-        } => {
-            let skips = skipped(now.skips, now.account, a, &before, piece);
-            table::frame(rt, out, at, ways, place, length, frame, numbers);
-            over(a, skips, shown(rt, ways.quiet, out, at))
-        }
-        Taken::All(a) => {
-            let skips = skipped(now.skips, now.account, a, &before, piece);
-            refilled(rt, source, name, ways, piece, a, skips, out, at)
-        }
-        Taken::Failed(a) => over(a, now.skips, End::Failed),
+    out: &mut Output<Terminal>,
+) -> Result<bool, Failure> {
+    let is_first = recording.account().bytes == 0;
+    if recording.refill()?.is_none() {
+        recording.say_if_empty();
+        return Ok(false);
     }
+    if is_first {
+        table::opening(out, recording.name(), ways);
+    }
+    Ok(true)
 }
 
-// Reads the next piece, behind which the recording goes on, or comes to its end.
-fn refilled(
-    rt: &HostRuntime,
-    source: &mut Source,
-    name: &[u8],
-    ways: Ways,
-    piece: &mut [u8; 65536],
-    account: Account,
-    skips: Skips,
-    out: &mut [u8; 65536],
-    at: &mut usize,
-) -> Scanned
-    ensures { AllTaken account → Right result.account }
-{
-    match reading::refill(rt, source, name, piece, account) {
-        Step::Piece(b) => {
-            table::opening(rt, out, at, name, ways, account);
-            over(b, skips, End::On)
-        }
-        Step::Failed(b) => over(b, skips, End::Failed),
-        _ => {
-            arguments::empty(rt, name, account);
-            over(account, skips, End::Well)
-        }
-    }
-}
-
-fn over(account: Account, skips: Skips, end: End) -> Scanned
-    ensures { result.account ≡ account }
-{
-    Scanned {
-        account,
-        skips,
-        end,
-    }
-}
-
-// Counts what a call skipped: the first bytes of those held before it and of the piece.
-fn skipped(
-    counted: Skips,
-    from: Account,
-    to: Account,
-    before: &[u8; 1029],
-    piece: &[u8; 65536],
-) -> Skips {
-    let n = num::wrapping_sub_u64(to.skipped, from.skipped);
+// Counts what a step skipped.
+fn skipped(counted: Skips, recording: &Recording, before: &Before) -> Skips {
     let mut skips = counted;
-    for i in 0..n {
-        let byte = skips::byte_at(before, from.held, piece, from.from, i as usize);
-        skips = skips::count(skips, byte);
+    for i in 0..recording.skipped_since(before) {
+        skips = skips.count(recording.byte_since(before, i as usize));
     }
     skips
-}
-
-// Writes the row that waits, if there are rows. The work goes on if that could be done.
-fn shown(rt: &HostRuntime, quiet: bool, out: &[u8; 65536], at: &mut usize) -> End {
-    if quiet {
-        return End::On;
-    }
-    if printing::flush(rt, out, at) {
-        return End::On;
-    }
-    End::Stopped
 }

@@ -1,117 +1,101 @@
 // What the arguments ask for, and what is said to the user.
-use reading::arguments;
-use reading::arguments::{Kind, same};
+use reading::arguments::{Kind, Word};
+use reading::{Mode, arguments, asked};
+use std::env::Env;
+
+// How a recording is shown, and which frames are looked for.
+#[derive(Clone, Copy)]
+pub struct Ways {
+    pub quiet: bool,
+    pub mode: Mode,
+}
 
 // What all the arguments ask for: `unknown` is the place of the first option that is not known, `rest` that of `--`, and
-// `file` that of a recording, or 0.
+// `file` that of a recording.
 #[derive(Clone, Copy)]
 pub struct Asked {
     pub help: bool,
     pub version: bool,
-    pub quiet: bool,
-    pub mode: u32,
-    pub unknown: usize,
-    pub rest: usize,
-    pub file: usize,
+    pub ways: Ways,
+    pub unknown: Option<usize>,
+    pub rest: Option<usize>,
+    pub file: Option<usize>,
 }
 
-// How a recording is shown, and the mode of its scanner.
-#[derive(Clone, Copy)]
-pub struct Ways {
-    pub quiet: bool,
-    pub mode: u32,
-}
-
-pub fn all(rt: &HostRuntime) -> Asked {
+pub fn all(env: &impl Env) -> Asked {
     let mut asked = Asked {
         help: false,
         version: false,
-        quiet: false,
-        mode: 0,
-        unknown: 0,
-        rest: 0,
-        file: 0,
+        ways: Ways {
+            quiet: false,
+            mode: Mode::Rtcm,
+        },
+        unknown: None,
+        rest: None,
+        file: None,
     };
-    for i in 1..arguments::count(rt) {
-        let kind = kind_at(rt, i, asked.rest);
-        asked = with(rt, asked, kind, i);
+    for i in 1..arguments::count(env) {
+        asked = with(asked, Word::or_empty(env, i).bytes(), i);
     }
     asked
 }
 
 // What is asked for with argument i.
-fn with(rt: &HostRuntime, asked: Asked, kind: Kind, i: usize) -> Asked {
-    let mut now = asked;
-    match kind {
-        Kind::Help => {
-            now.help = true;
-        }
-        Kind::Version => {
-            now.version = true;
-        }
-        Kind::Own => {
-            now.mode = mode_by(rt, i, asked.mode);
-            now.quiet = quiet_by(rt, i, asked.quiet);
-        }
-        Kind::Rest => {
-            now.rest = i;
-        }
-        Kind::Unknown => {
-            now.unknown = first(asked.unknown, i);
-        }
-        _ => {
-            now.file = i;
-        }
+fn with(asked: Asked, word: &[u8], i: usize) -> Asked {
+    match kind_of(word, i, asked.rest) {
+        Kind::Help => Asked {
+            help: true,
+            ..asked
+        },
+        Kind::Version => Asked {
+            version: true,
+            ..asked
+        },
+        Kind::Own => Asked {
+            ways: ways_with(asked.ways, word),
+            ..asked
+        },
+        Kind::Rest => Asked {
+            rest: Some(i),
+            ..asked
+        },
+        Kind::Unknown => Asked {
+            unknown: asked.unknown.or(Some(i)),
+            ..asked
+        },
+        Kind::Input | Kind::File => Asked {
+            file: Some(i),
+            ..asked
+        },
     }
-    now
 }
 
-// The first of two places, of which 0 is none.
-fn first(a: usize, b: usize) -> usize {
-    if a == 0 { b } else { a }
-}
-
-// What argument i is, where the place of `--` is `rest`.
-fn kind_at(rt: &HostRuntime, i: usize, rest: usize) -> Kind {
-    let mut word = [0u8; 4096];
-    let n = arguments::word(rt, i, &mut word);
-    kind_of(&word[..n], i, rest)
-}
-
-// The mode, once the own option at place i is heeded; and whether there are no rows.
-fn mode_by(rt: &HostRuntime, i: usize, mode: u32) -> u32 {
-    if is_ubx(rt, i) { 1 } else { mode }
-}
-
-fn quiet_by(rt: &HostRuntime, i: usize, quiet: bool) -> bool {
-    if is_ubx(rt, i) { quiet } else { true }
-}
-
-// Whether argument i is the option --ubx.
-fn is_ubx(rt: &HostRuntime, i: usize) -> bool {
-    let mut word = [0u8; 4096];
-    let n = arguments::word(rt, i, &mut word);
-    same(&word[..n], b"--ubx")
+// The ways, once one of the program's own options is heeded.
+fn ways_with(ways: Ways, word: &[u8]) -> Ways {
+    match word {
+        b"--ubx" => Ways {
+            mode: Mode::RtcmAndUbx,
+            ..ways
+        },
+        _ => Ways {
+            quiet: true,
+            ..ways
+        },
+    }
 }
 
 // What the word of argument i is. The program's own options are --quiet and --ubx.
-pub fn kind_of(word: &[u8], i: usize, rest: usize) -> Kind {
-    if rest != 0 {
-        if rest < i {
-            return arguments::operand_of(word);
-        }
+pub fn kind_of(word: &[u8], i: usize, rest: Option<usize>) -> Kind {
+    if asked::is_behind(i, rest) {
+        return arguments::operand_of(word);
     }
-    if same(word, b"--ubx") {
-        return Kind::Own;
+    match word {
+        b"--ubx" => Kind::Own,
+        _ => arguments::kind_of(word, b"--quiet"),
     }
-    arguments::kind_of(word, b"--quiet")
 }
 
-pub fn help(rt: &HostRuntime) {
-    arguments::tell(
-        rt,
-        b"rtcm_scan",
-        b"rtcm_scan [--quiet] [--ubx] [--] FILE..
+pub const HELP: &str = "rtcm_scan [--quiet] [--ubx] [--] FILE..
 
 Shows the RTCM 3 frames of each file (- is standard input): a row for each, with its place,
 its length, its kind and its message number (- if it has none), and a closing table, which
@@ -128,6 +112,4 @@ frame has arrived.
 
 The exit status is always 0. If something failed, the last line on standard error is
 \"rtcm_scan: failed\".
-",
-    );
-}
+";

@@ -1,179 +1,151 @@
 // The rows and the closing table of one recording.
 use crate::options::Ways;
-use printing::{hex, phrase, text, unsigned};
-use reading::Account;
+use frames::scanner::Kind;
+use printing::{Output, Terminal};
 use reading::skips::Skips;
-use std::num;
+use reading::{Account, Found, Mode};
+
+// How many frames have which message number, and how many have none. Sums go round at 2^64.
+#[derive(Drop)]
+pub struct Numbers {
+    counts: [u64; 4096],
+    without: u64,
+}
+
+impl Numbers {
+    pub fn none() -> Numbers {
+        Numbers {
+            counts: [0; 4096],
+            without: 0,
+        }
+    }
+
+    // One more frame.
+    fn count(&mut self, number: Option<u16>) {
+        match number {
+            Some(number) => {
+                if let Some(count) = self.counts.get_mut(usize::from(number)) {
+                    *count = count.wrapping_add(1);
+                }
+            }
+            None => self.without = self.without.wrapping_add(1),
+        }
+    }
+}
 
 // Before the first piece: the name, and the heads of the columns.
-pub fn opening(
-    rt: &HostRuntime,
-    out: &mut [u8; 65536],
-    at: &mut usize,
-    name: &[u8],
-    ways: Ways,
-    account: Account,
-) {
-    if account.bytes != 0 {
-        return;
-    }
-    text(rt, out, at, name);
-    text(rt, out, at, b"\n");
+pub fn opening(out: &mut Output<Terminal>, name: &[u8], ways: Ways) {
+    out.bytes(name);
+    out.text("\n");
     if !ways.quiet {
-        text(rt, out, at, b"       place  length  kind  message\n");
+        out.text("       place  length  kind  message\n");
     }
 }
 
-// Counts the frame under its message number, and adds its row. A UBX frame begins with B5.
+// Counts the frame under its message number, if it is of RTCM, and adds its row.
 pub fn frame(
-    rt: &HostRuntime,
-    out: &mut [u8; 65536],
-    at: &mut usize,
+    out: &mut Output<Terminal>,
     ways: Ways,
-    place: u64,
-    length: usize,
-    bytes: &[u8; 1029],
-    numbers: &mut [u64; 4097],
+    found: Found,
+    bytes: &[u8],
+    numbers: &mut Numbers,
 ) {
-    if bytes[0] == 0xB5 {
-        ubx(rt, out, at, ways, place, length, bytes);
+    let number = reading::number_of(bytes);
+    if let Kind::Rtcm = found.kind {
+        numbers.count(number);
+    }
+    if ways.quiet {
         return;
     }
-    let number = reading::number_of(reading::frame_of(bytes, length));
-    count(numbers, number);
-    if !ways.quiet {
-        unsigned(rt, out, at, place, 12);
-        unsigned(rt, out, at, length as u64, 8);
-        text(rt, out, at, b"  RTCM");
-        message(rt, out, at, number);
-        text(rt, out, at, b"\n");
+    out.unsigned(found.place, 12);
+    out.unsigned(found.length as u64, 8);
+    match found.kind {
+        Kind::Rtcm => {
+            out.text("  RTCM");
+            message(out, number);
+        }
+        Kind::Ubx => ubx(out, bytes),
+    }
+    out.text("\n");
+}
+
+// The message of a UBX frame is its class and its id.
+fn ubx(out: &mut Output<Terminal>, bytes: &[u8]) {
+    if let [_, _, class, id, ..] = bytes {
+        out.text("   UBX    ");
+        out.hex(u64::from(*class), 2);
+        out.text(" ");
+        out.hex(u64::from(*id), 2);
     }
 }
 
-// The row of a UBX frame: its message is its class and its id.
-fn ubx(
-    rt: &HostRuntime,
-    out: &mut [u8; 65536],
-    at: &mut usize,
-    ways: Ways,
-    place: u64,
-    length: usize,
-    bytes: &[u8; 1029],
-) {
-    if !ways.quiet {
-        unsigned(rt, out, at, place, 12);
-        unsigned(rt, out, at, length as u64, 8);
-        text(rt, out, at, b"   UBX    ");
-        hex(rt, out, at, wide(bytes[2]), 2);
-        text(rt, out, at, b" ");
-        hex(rt, out, at, wide(bytes[3]), 2);
-        text(rt, out, at, b"\n");
+// A message number, or `-`.
+fn message(out: &mut Output<Terminal>, number: Option<u16>) {
+    match number {
+        Some(number) => out.unsigned(u64::from(number), 9),
+        None => out.text("        -"),
     }
-}
-
-fn wide(x: u8) -> u64 {
-    x as u64
-}
-
-fn count(numbers: &mut [u64; 4097], number: u64) {
-    if number < 4097 {
-        let i = number as usize;
-        numbers[i] = num::wrapping_add_u64(numbers[i], 1);
-    }
-}
-
-// A message number, or `-` for 4,096.
-fn message(rt: &HostRuntime, out: &mut [u8; 65536], at: &mut usize, number: u64) {
-    if number < 4096 {
-        unsigned(rt, out, at, number, 9);
-        return;
-    }
-    text(rt, out, at, b"        -");
 }
 
 // The closing table: the account, and the frames of each message number.
-pub fn closing(
-    rt: &HostRuntime,
-    out: &mut [u8; 65536],
-    at: &mut usize,
-    account: Account,
-    skips: Skips,
-    numbers: &[u64; 4097],
-) {
-    line(rt, out, at, b"  bytes           ", account.bytes);
-    line(rt, out, at, b"  frames          ", account.frames);
-    line(rt, out, at, b"  bytes in frames ", account.framed);
-    line(rt, out, at, b"  skipped         ", account.skipped);
-    reasons(rt, out, at, account, skips);
-    line(rt, out, at, b"  held            ", account.held as u64);
-    sum(rt, out, at, account);
-    by_number(rt, out, at, numbers);
-    text(rt, out, at, b"\n");
+pub fn closing(out: &mut Output<Terminal>, account: Account, skips: Skips, numbers: &Numbers) {
+    line(out, "  bytes           ", account.bytes);
+    line(out, "  frames          ", account.frames);
+    line(out, "  bytes in frames ", account.framed);
+    line(out, "  skipped         ", account.skipped);
+    reasons(out, account, skips);
+    line(out, "  held            ", account.held as u64);
+    sum(out, account);
+    by_number(out, numbers);
+    out.text("\n");
 }
 
 // How many bytes were skipped for which reason. To a scanner for RTCM alone a B5 is a byte that is not D3.
-fn reasons(
-    rt: &HostRuntime,
-    out: &mut [u8; 65536],
-    at: &mut usize,
-    account: Account,
-    skips: Skips,
-) {
-    if account.mode == 0 {
-        let others = num::wrapping_add_u64(skips.others, skips.b5);
-        line(rt, out, at, b"    not D3        ", others);
-        line(rt, out, at, b"    bad check     ", skips.d3);
+fn reasons(out: &mut Output<Terminal>, account: Account, skips: Skips) {
+    if account.mode == Mode::Rtcm {
+        line(
+            out,
+            "    not D3        ",
+            skips.others.wrapping_add(skips.b5),
+        );
+        line(out, "    bad check     ", skips.d3);
         return;
     }
-    line(rt, out, at, b"    not D3 or B5  ", skips.others);
-    line(rt, out, at, b"    bad check     ", skips.d3);
-    line(rt, out, at, b"    bad UBX       ", skips.b5);
+    line(out, "    not D3 or B5  ", skips.others);
+    line(out, "    bad check     ", skips.d3);
+    line(out, "    bad UBX       ", skips.b5);
 }
 
-fn line(rt: &HostRuntime, out: &mut [u8; 65536], at: &mut usize, name: &[u8], n: u64) {
-    phrase(rt, out, at, name, n, 12, b"\n");
+fn line(out: &mut Output<Terminal>, name: &str, n: u64) {
+    out.phrase(name, n, 12, "\n");
 }
 
 // The sum of the bytes in frames, skipped and held, which comes out at the bytes read.
-fn sum(rt: &HostRuntime, out: &mut [u8; 65536], at: &mut usize, account: Account) {
-    let sum = num::wrapping_add_u64(
-        num::wrapping_add_u64(account.framed, account.skipped),
-        account.held as u64,
-    );
-    if sum == account.bytes {
-        phrase(
-            rt,
-            out,
-            at,
-            b"  sum             ",
-            sum,
-            12,
-            b"  every byte is accounted for\n",
-        );
-        return;
-    }
-    phrase(
-        rt,
-        out,
-        at,
-        b"  sum             ",
-        sum,
-        12,
-        b"  IS NOT THE BYTES READ\n",
-    );
+fn sum(out: &mut Output<Terminal>, account: Account) {
+    let sum = account
+        .framed
+        .wrapping_add(account.skipped)
+        .wrapping_add(account.held as u64);
+    let verdict = if sum == account.bytes {
+        "  every byte is accounted for\n"
+    } else {
+        "  IS NOT THE BYTES READ\n"
+    };
+    out.phrase("  sum             ", sum, 12, verdict);
 }
 
-fn by_number(rt: &HostRuntime, out: &mut [u8; 65536], at: &mut usize, numbers: &[u64; 4097]) {
-    for i in 0..4097 {
-        of_number(rt, out, at, i as u64, numbers[i]);
+fn by_number(out: &mut Output<Terminal>, numbers: &Numbers) {
+    for (number, n) in (0u16..).zip(&numbers.counts) {
+        of_number(out, Some(number), *n);
     }
+    of_number(out, None, numbers.without);
 }
 
-fn of_number(rt: &HostRuntime, out: &mut [u8; 65536], at: &mut usize, number: u64, n: u64) {
+fn of_number(out: &mut Output<Terminal>, number: Option<u16>, n: u64) {
     if n == 0 {
         return;
     }
-    text(rt, out, at, b"  message");
-    message(rt, out, at, number);
-    phrase(rt, out, at, b"", n, 12, b"\n");
+    out.text("  message");
+    message(out, number);
+    out.phrase("", n, 12, "\n");
 }

@@ -1,6 +1,6 @@
 -- Which case of reading holds. Assumes nothing.
 use mathlib.Core.Path.{◌≡◌, refl, sym, ap, ap₂, ◌∙◌}
-use mathlib.Core.Bool.{Bool, true, false, cond, not}
+use mathlib.Core.Bool.{Bool, true, false, cond, not, true≢false}
 use mathlib.Core.List.{List, []}
 use Prim.Native.Nat.{ℕ, ◌-◌, ◌≤◌, ◌<◌}
 use native.Mathlib.Omega.{arith}
@@ -13,56 +13,69 @@ use Rattle.bits.specs.Onto.{onto}
 use Rattle.settings.specs.Block.{index_in, edition_in, count_in, entry_place, numbers_in, priorities_in}
 use Rattle.settings.specs.Read.{sent_sum, own_sum, can_read, zeros, filled, bad_in, Found, found, judge_entries, judge, read_settings}
 use Rattle.settings.specs.Answers.{told_read}
-use Rattle.settings.specs.declared.read.BlockRead.{BlockRead}
-use Rattle.settings.specs.declared.read.BlockRead.TheVariants as R
+use Rattle.settings.specs.declared.read.Settings.{Settings}
+use Rattle.settings.specs.declared.entries.Entries.{Entries}
+use Rattle.settings.specs.Entries.{found_in}
+use Rattle.bits.specs.Refusals.{told, number_of, carried_by}
+use Rattle.bits.specs.declared.refusal.Refusal.{Refusal}
+use Rattle.bits.specs.declared.refusal.Refusal.TheVariants.{Kind}
+use Rattle.settings.specs.Edition.{number_of as number_of_edition}
+use Rattle.settings.specs.declared.layout.Edition.{Edition}
+use Rattle.settings.specs.Block.{known}
+use Rattle.std.specs.Prelude.{Result, Ok, Err, IsErrAnd, MatchResult}
 
 -- ---- which editions a reader reads
 
 module _ (reader edition : ℕ) where
-  pub reader_1 : reader ≡ 1 → eqb edition 1 ≡ can_read reader edition
-  unfolding can_read
-  reader_1 q = simp (eq-eqb _ _ q)
+  pub no_reader : known reader ≡ false → can_read reader edition ≡ false
+  unfolding can_read known
+  no_reader k = go (eqb reader 1) (eqb reader 2) k
+    where
+      go : (a b : Bool) → cond a true b ≡ false → cond a (eqb edition 1) (cond b (cond (eqb edition 1) true (eqb edition 2)) false) ≡ false
+      go true b e = absurd (true≢false e)
+      go false true e = absurd (true≢false e)
+      go false false e = refl
 
-  module _ (n : reader ≡ 1 → ⊥) where
-    pub no_reader : (reader ≡ 2 → ⊥) → false ≡ can_read reader edition
-    unfolding can_read
-    no_reader m = simp (ne_eqb _ _ n, ne_eqb _ _ m)
+  pub no_edition : known edition ≡ false → can_read reader edition ≡ false
+  unfolding can_read known
+  no_edition k = go (eqb edition 1) (eqb edition 2) k (eqb reader 1) (eqb reader 2)
+    where
+      go : (a b : Bool) → cond a true b ≡ false → (c d : Bool) → cond c a (cond d (cond a true b) false) ≡ false
+      go true b e c d = absurd (true≢false e)
+      go false true e c d = absurd (true≢false e)
+      go false false e true d = refl
+      go false false e false true = refl
+      go false false e false false = refl
 
-    pub reader_2_first : reader ≡ 2 → edition ≡ 1 → true ≡ can_read reader edition
-    unfolding can_read
-    reader_2_first q e = simp (ne_eqb _ _ n, eq-eqb _ _ q, eq-eqb _ _ e)
-
-    pub reader_2_second : reader ≡ 2 → (edition ≡ 1 → ⊥) → eqb edition 2 ≡ can_read reader edition
-    unfolding can_read
-    reader_2_second q m = simp (ne_eqb _ _ n, eq-eqb _ _ q, ne_eqb _ _ m)
-
--- what the code found of the edition that it read, r, is so of the block's
-pub can_so : (s : List ℕ) (reader : ℕ) {r b : Bool} {e : ℕ} → r ≡ b → r ≡ can_read reader e → e ≡ edition_in s → can_read reader (edition_in s) ≡ b
-can_so s reader f g q = ap (can_read reader) (sym q) ∙ sym g ∙ f
-
--- and of the filler from place `at` on
-pub filled_so : (s : List ℕ) (e n at : ℕ) {r b : Bool} → r ≡ b → r ≡ zeros s at (509 - at) → at ≡ entry_place e n → e ≡ edition_in s → n ≡ count_in s → filled s ≡ b
-filled_so s e n at f g p q c =
-    let w : at ≡ entry_place (edition_in s) (count_in s) = p ∙ ap₂ entry_place q c in
-    ap (λ (i : ℕ). zeros s i (509 - i)) (sym w) ∙ sym g ∙ f
+  pub not_readable : can_read reader edition ≡ false → (r : Result Edition Refusal) (x : Refusal) → IsErrAnd r (λ e. e ≡ x) → x ≡ Kind
+      → MatchResult r (λ e. (number_of_edition e ≡ edition) × (can_read reader edition ≡ true)) (λ y. (y ≡ Kind) × (can_read reader edition ≡ false))
+  not_readable f (Err y) x p q = (p ∙ q, f)
+  not_readable f (Ok e) x p q = absurd p
 
 -- ---- the entries
 
 module _ (s : List ℕ) where
-  pub entry_bad : (k n : ℕ) → k ≡ bad_in s → n ≡ count_in s → k < n → range k ≡ judge_entries s
+  pub entry_bad : (k : ℕ) → k ≡ bad_in s → k < count_in s → range k ≡ judge_entries s
   unfolding judge_entries
-  entry_bad k n q c h = let l : bad_in s < count_in s = omega arith in ap range q ∙ simp (lt-ltb _ _ l)
+  entry_bad k q h = let l : bad_in s < count_in s = omega arith in ap range q ∙ simp (lt-ltb _ _ l)
 
-  module _ (k n : ℕ) (q : k ≡ bad_in s) (c : n ≡ count_in s) (h : n ≤ k) where
+  module _ (h : count_in s ≤ bad_in s) where
     pub not_filled : filled s ≡ false → range 0 ≡ judge_entries s
     unfolding judge_entries
-    not_filled f = let l : count_in s ≤ bad_in s = omega arith in simp (le-ltb _ _ l, f)
+    not_filled f = simp (le-ltb _ _ h, f)
 
-    pub is_filled : (e : ℕ) → e ≡ edition_in s → filled s ≡ true → Accepted (found n e) ≡ judge_entries s
+    pub is_filled : (n e : ℕ) → n ≡ count_in s → e ≡ edition_in s → filled s ≡ true → Accepted (found n e) ≡ judge_entries s
     unfolding judge_entries
-    is_filled e d f =
-        let l : count_in s ≤ bad_in s = omega arith in
-        ap₂ (λ (x y : ℕ). Accepted (found x y)) c d ∙ simp (le-ltb _ _ l, f)
+    is_filled n e c d f = ap₂ (λ (x y : ℕ). Accepted (found x y)) c d ∙ simp (le-ltb _ _ h, f)
+
+-- the filler from place `at` on
+pub filled_at : (s : List ℕ) (e n at : ℕ) → at ≡ entry_place e n → e ≡ edition_in s → n ≡ count_in s → zeros s at (509 - at) ≡ filled s
+filled_at s e n at p q c = ap (λ (i : ℕ). zeros s i (509 - i)) (p ∙ ap₂ entry_place q c)
+
+-- an edition that is not read is told as Kind
+pub kind_told : (r : Result Entries Refusal) (x : Refusal) → IsErrAnd r (λ e. e ≡ x) → x ≡ Kind → told found_in r ≡ kind
+kind_told (Err y) x p q = ap (λ (z : Refusal). Refused (number_of z) (carried_by z)) (p ∙ q)
+kind_told (Ok v) x p q = absurd p
 
 -- ---- the block
 
@@ -141,14 +154,6 @@ judge_tells s reader index f e =
       told = ap found_of (sym i.1);
     }
 
--- the same, of what the code answered
-pub answer_tells : (s : List ℕ) (reader index : ℕ) (r : BlockRead) (n e : ℕ) → told_read r ≡ judge s reader index → r ≡ R.Settings n e
-    → (length s ≡ 512) × (e ≡ edition_in s) × (n ≡ count_in s) × (n ≤ 64)
-answer_tells s reader index r n e q g =
-    let t = judge_tells s reader index (found n e) (sym q ∙ ap told_read g) in
-    let c : n ≡ count_in s = ap (λ (f : Found). f.count) t.told in
-    (t.long, ap (λ (f : Found). f.edition) t.told, c, omega (arith, t.counted, c))
-
 -- ---- the lists
 
 module _ (s : List ℕ) (reader index : ℕ) (numbers priorities : List ℕ) where
@@ -169,20 +174,19 @@ module _ (s : List ℕ) (reader index : ℕ) (numbers priorities : List ℕ) whe
       unfolding read_settings
       whole = simp (eq-eqb _ _ l, eq-eqb _ _ m)
 
-      kept : (r : BlockRead) → ((n e : ℕ) → r ≡ R.Settings n e → ⊥) → outcome (told_read r) (numbers, priorities) ≡ refusing (numbers, priorities) (told_read r) After
-      kept (R.Settings n e) o = absurd (o n e refl)
-      kept R.Size o = refl
-      kept (R.BadCheck a b) o = refl
-      kept R.Kind o = refl
-      kept (R.Range k) o = refl
+      module _ (r : Result Entries Refusal) (q : told found_in r ≡ judge s reader index) where
+        -- a refusal of the block is handed on
+        pub refused_read : (x : Refusal) → r ≡ Err x → (t : Result Settings Refusal) → IsErrAnd t (λ e. e ≡ x)
+            → outcome (told_read t) (numbers, priorities) ≡ read_settings s reader index numbers priorities
+        refused_read x e (Err y) g =
+            ap (λ (z : Refusal). outcome (Refused (number_of z) (carried_by z)) (numbers, priorities)) g
+            ∙ ap (λ (t : Told Found). refusing (numbers, priorities) t After) (sym (ap (told found_in) e) ∙ q)
+            ∙ whole
+        refused_read x e (Ok v) g = absurd g
 
-      module _ (r : BlockRead) (q : told_read r ≡ judge s reader index) where
-        pub refused_read : ((n e : ℕ) → r ≡ R.Settings n e → ⊥) → outcome (told_read r) (numbers, priorities) ≡ read_settings s reader index numbers priorities
-        refused_read o = kept r o ∙ ap (λ (t : Told Found). refusing (numbers, priorities) t After) q ∙ whole
-
-        pub accepted_read : (n e : ℕ) → r ≡ R.Settings n e → (a b : List ℕ) → a ≡ onto (numbers_in s) numbers → b ≡ onto (priorities_in s) priorities
-            → outcome (Accepted (found n e)) (a, b) ≡ read_settings s reader index numbers priorities
-        accepted_read n e g a b x y =
-            ap₂ (λ (c d : List ℕ). outcome (Accepted (found n e)) (c, d)) x y
-            ∙ ap (λ (t : Told Found). refusing (numbers, priorities) t After) (sym (ap told_read g) ∙ q)
+        pub accepted_read : (b : Entries) → r ≡ Ok b → (a c : List ℕ) → a ≡ onto (numbers_in s) numbers → c ≡ onto (priorities_in s) priorities
+            → outcome (Accepted (found_in b)) (a, c) ≡ read_settings s reader index numbers priorities
+        accepted_read b e a c x y =
+            ap₂ (λ (m n : List ℕ). outcome (Accepted (found_in b)) (m, n)) x y
+            ∙ ap (λ (t : Told Found). refusing (numbers, priorities) t After) (sym (ap (told found_in) e) ∙ q)
             ∙ whole

@@ -131,7 +131,7 @@ module _ (e x : ℕ) (ns ps : List ℕ) (n : ℕ) (w : Writes e x ns ps n) where
 
   judged_back : (r : ℕ) → can_read r e ≡ true → judge s r x ≡ Accepted (found (length ns) e)
   judged_back r c =
-      sym (is_filled s (bad_in s) (length ns) refl (sym (written_count e x ns ps)) (omega (arith, same_bad, w.good)) e (sym (written_edition e x ns ps)) filled_back
+      sym (is_filled s (omega (arith, same_bad, w.good, written_count e x ns ps)) (length ns) e (sym (written_count e x ns ps)) (sym (written_edition e x ns ps)) filled_back
       ∙ by_entries s r x (written_length e x ns ps) (sent_sum s) (own_sum s) refl refl (sums_agree e x ns ps)
       (ap (can_read r) (written_edition e x ns ps) ∙ c) (written_index e x ns ps w.indexed) (omega (arith, written_count e x ns ps, w.counted)))
 

@@ -7,7 +7,15 @@ use native.Mathlib.Omega.{arith}
 use lib.ListN.{length, take, drop}
 use lib.Seq.{take_at}
 use borrow.Author.Tests.{lt-ltb, le-ltb, eq-eqb, ne_eqb}
-use Rattle.bits.specs.Told.{Accepted, size, kind, range, room}
+use Rattle.std.specs.Prelude.{Result, Ok, Err, IsErrAnd}
+use Rattle.bits.specs.Refusals.{number_of as refusal_number, carried_by}
+use Rattle.bits.specs.declared.refusal.Refusal.{Refusal}
+use Rattle.bits.specs.declared.refusal.Refusal.TheVariants.{Kind}
+use Rattle.settings.specs.Answers.{told_written}
+use Rattle.settings.specs.Edition.{number_of}
+use Rattle.settings.specs.declared.layout.Edition.{Edition}
+use Rattle.settings.specs.declared.layout.Edition.TheVariants.{First, Second}
+use Rattle.bits.specs.Told.{Refused, Accepted, size, range, room}
 use Rattle.bits.specs.Outcome.{outcome}
 use Rattle.bits.specs.Crc.{crc, three_bytes}
 use Rattle.bits.specs.Onto.{onto, over}
@@ -17,10 +25,17 @@ use Rattle.settings.specs.Block.{known, listed, byte_of, block_of}
 use Rattle.settings.specs.Write.{bad_of, may_write, write_settings}
 use Rattle.settings.proofs.ListedLaws.{length_listed}
 
+-- an edition of the code is known
+pub is_known : (d : Edition) (e : ℕ) → number_of d ≡ e → known e ≡ true
+unfolding known
+is_known First e q = rw (← q)
+is_known Second e q = rw (← q)
+
 module _ (e x : ℕ) (ns ps out : List ℕ) where
-  pub unknown_edition : known e ≡ false → outcome kind out ≡ write_settings e x ns ps out
+  pub no_such_edition : (r : Result (Unit {0}) Refusal) (y : Refusal) → IsErrAnd r (λ z. z ≡ y) → y ≡ Kind → known e ≡ false → outcome (told_written r) out ≡ write_settings e x ns ps out
   unfolding write_settings may_write
-  unknown_edition k = simp k
+  no_such_edition (Err z) y p q k = ap (λ (i : Refusal). outcome (Refused (refusal_number i) (carried_by i)) out) (p ∙ q) ∙ simp k
+  no_such_edition (Ok v) y p q k = absurd p
 
   module _ (k : known e ≡ true) where
     pub unequal_lists : (length ns ≡ length ps → ⊥) → outcome size out ≡ write_settings e x ns ps out
@@ -44,18 +59,16 @@ module _ (e x : ℕ) (ns ps out : List ℕ) where
               let g : bad_of e ns ps < length ns = omega arith in
               ap (λ (n : ℕ). outcome (range n) out) q ∙ simp (k, eq-eqb _ _ l, le-ltb _ _ h, le-ltb _ _ i, lt-ltb _ _ g)
 
-          module _ (b : ℕ) (q : b ≡ bad_of e ns ps) (f : length ns ≤ b) where
+          module _ (f : length ns ≤ bad_of e ns ps) where
             pub no_room : length out < 512 → outcome (room 512) out ≡ write_settings e x ns ps out
             unfolding write_settings may_write
             no_room r =
-                let g : length ns ≤ bad_of e ns ps = omega arith in
-                simp (k, eq-eqb _ _ l, le-ltb _ _ h, le-ltb _ _ i, le-ltb _ _ g, lt-ltb _ _ r)
+                simp (k, eq-eqb _ _ l, le-ltb _ _ h, le-ltb _ _ i, le-ltb _ _ f, lt-ltb _ _ r)
 
             pub is_written : 512 ≤ length out → outcome (Accepted 512) (onto (block_of e x ns ps) out) ≡ write_settings e x ns ps out
             unfolding write_settings may_write
             is_written r =
-                let g : length ns ≤ bad_of e ns ps = omega arith in
-                simp (k, eq-eqb _ _ l, le-ltb _ _ h, le-ltb _ _ i, le-ltb _ _ g, le-ltb _ _ r)
+                simp (k, eq-eqb _ _ l, le-ltb _ _ h, le-ltb _ _ i, le-ltb _ _ f, le-ltb _ _ r)
 
 -- a checksum has 24 bits
 pub sum_below : (s : List ℕ) (r : ℕ) → r ≡ crc s → r < 2 ^ 24

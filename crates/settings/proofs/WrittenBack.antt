@@ -194,7 +194,7 @@ module _ (s : List ℕ) (bs : Bytes s) (reader index : ℕ) (f : Found) (t : Acc
   pub writes_back : (out : List ℕ) → 512 ≤ length out → write_settings e index ns ps out ≡ outcome (Accepted 512) (onto s out)
   writes_back out h =
       let w = may_back (length out) h in
-      sym (is_written e index ns ps out w.edition w.equal w.counted w.indexed (bad_of e ns ps) refl w.good h)
+      sym (is_written e index ns ps out w.edition w.equal w.counted w.indexed w.good h)
       ∙ ap (λ (b : List ℕ). outcome (Accepted 512) (onto b out)) block_back
 
 -- ---- the calls

@@ -3,6 +3,7 @@
 // `specs/Block.antt` says what a block is; `specs/Read.antt` and `specs/Write.antt` what the two calls answer.
 #![tactic(auto)]
 
+mod entries;
 mod layout;
 pub mod read;
 pub mod write;

@@ -1,161 +1,111 @@
 // Reading a settings block.
-ghost use Rattle.std.specs.Prelude.{◌≡◌, ◌≤◌, ◌<◌, ◌^◌, ◌-◌, ◌*◌, ◌+◌, length};
+ghost use Rattle.std.specs.Prelude.{◌≡◌, ◌≤◌, ◌<◌, ◌^◌, ◌*◌, ◌+◌, length, IfOk, MatchResult, true, false};
 ghost use Rattle.bits.specs.Outcome.{outcome};
+ghost use Rattle.bits.specs.Refusals.{told};
 ghost use Rattle.bits.specs.Field.{field};
 ghost use Rattle.bits.specs.Onto.{onto};
-ghost use Rattle.settings.specs.Block.{listed, edition_in, count_in, number_in, priority_in};
-ghost use Rattle.settings.specs.Read.{can_read, zeros, bad_in, judge_entries, judge, read_settings};
+ghost use Rattle.settings.specs.Block.{numbers_in, priorities_in};
+ghost use Rattle.settings.specs.Edition.{number_of};
+ghost use Rattle.settings.specs.Entries.{found_in};
+ghost use Rattle.settings.specs.Read.{can_read, judge_entries, judge, read_settings};
 ghost use Rattle.settings.specs.Answers.{told_read};
 
-use crate::layout;
+use crate::entries::Entries;
+use crate::layout::Edition;
 use bits::crc;
+use bits::refusal::Refusal;
 
-// What reading answers: how many numbers were read and the block's edition; or a refusal.
-#[derive(Clone, Copy)]
-pub enum BlockRead {
-    Settings { count: usize, edition: u32 },
-    Size,
-    BadCheck { sent: u32, computed: u32 },
-    Kind,
-    // Carries the index of the bad number or priority; 0 for the block's index, its count and its filler.
-    Range(usize),
+// What was read: how many numbers, and the block's edition.
+#[derive(Clone, Copy, Debug, PartialEq, Eq)]
+pub struct Settings {
+    pub count: usize,
+    pub edition: u32,
 }
 
-// Reads the block of this index, for a reader of edition 1 or 2, into lists of 64 places each.
+// Reads the block of this index, for a reader of edition 1 or 2, into lists of 64 places each. Range carries the index of
+// the bad number or priority; 0 for the block's index, its count and its filler.
 pub fn read(
     block: &[u8],
     reader: u32,
     index: u32,
     numbers: &mut [u16],
     priorities: &mut [u8],
-) -> BlockRead
+) -> Result<Settings, Refusal>
     ensures { outcome (told_read result) (numbers.new, priorities.new) ≡ read_settings block.now reader index numbers.old priorities.old }
 {
-    if numbers.len() != 64 {
-        return BlockRead::Size;
+    if numbers.len() != 64 || priorities.len() != 64 {
+        return Err(Refusal::Size);
     }
-    if priorities.len() != 64 {
-        return BlockRead::Size;
-    }
-    let judged = judge(block, reader, index);
-    let BlockRead::Settings { count, edition } = judged else {
-        return judged;
-    };
-    take_numbers(block, edition, count, numbers);
-    take_priorities(block, edition, count, priorities);
-    judged
+    let entries = judge(block, reader, index)?;
+    take(&entries, numbers, priorities);
+    Ok(Settings {
+        count: entries.count,
+        edition: u32::from(entries.edition.number()),
+    })
 }
 
 // What reading answers of the block, before anything is written.
-fn judge(block: &[u8], reader: u32, index: u32) -> BlockRead
-    ensures { told_read result ≡ judge block.now reader index }
+fn judge(block: &[u8], reader: u32, index: u32) -> Result<Entries<'_>, Refusal>
+    ensures tells { told found_in result ≡ judge block.now reader index }
+    ensures of_block { IfOk result (λ e. e.block.now ≡ block.now) }
 {
     if block.len() != 512 {
-        return BlockRead::Size;
+        return Err(Refusal::Size);
     }
     let sent = three_at(block, 509);
     let computed = crc::crc24q(&block[0..509]);
     if sent != computed {
-        return BlockRead::BadCheck { sent, computed };
+        return Err(Refusal::BadCheck { sent, computed });
     }
-    let edition = layout::wide(block[2]);
-    if !can_read(reader, edition) {
-        return BlockRead::Kind;
+    let edition = readable(reader, u32::from(block[2]))?;
+    if u32::from(u16::from_be_bytes([block[0], block[1]])) != index {
+        return Err(Refusal::Range(0));
     }
-    if layout::wide(block[0]) * 256 + layout::wide(block[1]) != index {
-        return BlockRead::Range(0);
-    }
-    let count = layout::wide(block[3]) as usize;
+    let count = usize::from(block[3]);
     if 64 < count {
-        return BlockRead::Range(0);
+        return Err(Refusal::Range(0));
     }
-    judge_entries(block, edition, count)
+    judge_entries(Entries {
+        block,
+        edition,
+        count,
+    })
 }
 
 // The rest of it, for a block whose length, checksum, edition, index and count are good.
-fn judge_entries(block: &[u8], edition: u32, count: usize) -> BlockRead
-    requires { (length block.now ≡ 512) × (edition ≡ edition_in block.now) × (count ≡ count_in block.now) × (count ≤ 64) }
-    ensures { told_read result ≡ judge_entries block.now }
+fn judge_entries(entries: Entries<'_>) -> Result<Entries<'_>, Refusal>
+    ensures tells { told found_in result ≡ judge_entries entries.entry.block.now }
+    ensures of_block { IfOk result (λ e. e.block.now ≡ entries.entry.block.now) }
 {
-    let k = first_bad(block, edition, count);
-    if k < count {
-        return BlockRead::Range(k);
+    if let Some(k) = entries.first_bad() {
+        return Err(Refusal::Range(k));
     }
-    if !all_zeros(block, layout::entry_place(edition, count)) {
-        return BlockRead::Range(0);
+    if !entries.is_filled() {
+        return Err(Refusal::Range(0));
     }
-    BlockRead::Settings { count, edition }
+    Ok(entries)
 }
 
-// Whether a reader of the one edition reads blocks of the other.
-fn can_read(reader: u32, edition: u32) -> bool
-    ensures { result ≡ can_read reader edition }
+// The edition of a block, for a reader that reads it.
+#[tactic(auto, unfolding(crate::specs::Read::can_read))]
+fn readable(reader: u32, edition: u32) -> Result<Edition, Refusal>
+    ensures { MatchResult result (λ e. (number_of e ≡ edition) × (can_read reader edition ≡ true)) (λ r. (r ≡ Refusal.Kind) × (can_read reader edition ≡ false)) }
 {
-    if reader == 1 {
-        return edition == 1;
-    }
-    if reader == 2 {
-        if edition == 1 {
-            return true;
-        }
-        return edition == 2;
-    }
-    false
-}
-
-// The first entry with a bad number or priority, or the count.
-fn first_bad(block: &[u8], edition: u32, count: usize) -> usize
-    requires { (length block.now ≡ 512) × (edition ≡ edition_in block.now) × (count ≡ count_in block.now) × (count ≤ 64) }
-    ensures { result ≡ bad_in block.now }
-{
-    let mut k: usize = 0;
-    while k < count {
-        if layout::bad(
-            edition,
-            layout::number_in(block, edition, k),
-            layout::priority_in(block, edition, k),
-        ) {
-            return k;
-        }
-        k += 1;
-    }
-    k
-}
-
-// Whether the bytes from byte i up to the checksum are zeros.
-fn all_zeros(block: &[u8], i: usize) -> bool
-    requires { (length block.now ≡ 512) × (i ≤ 509) }
-    ensures { result ≡ zeros block.now i (509 - i) }
-{
-    let mut at = i;
-    while at < 509 {
-        if block[at] != 0 {
-            return false;
-        }
-        at += 1;
-    }
-    true
-}
-
-fn take_numbers(block: &[u8], edition: u32, count: usize, numbers: &mut [u16])
-    requires { (length block.now ≡ 512) × (edition ≡ edition_in block.now) × (count ≤ 64) × (length numbers.old ≡ 64) }
-    ensures { numbers.new ≡ onto (listed (number_in block.now) 0 count) numbers.old }
-{
-    let mut k: usize = 0;
-    while k < count {
-        numbers[k] = layout::number_in(block, edition, k);
-        k += 1;
+    match (Edition::try_from(reader)?, Edition::try_from(edition)?) {
+        (Edition::First, Edition::Second) => Err(Refusal::Kind),
+        (_, edition) => Ok(edition),
     }
 }
 
-fn take_priorities(block: &[u8], edition: u32, count: usize, priorities: &mut [u8])
-    requires { (length block.now ≡ 512) × (edition ≡ edition_in block.now) × (count ≤ 64) × (length priorities.old ≡ 64) }
-    ensures { priorities.new ≡ onto (listed (priority_in block.now) 0 count) priorities.old }
+// Writes the numbers and the priorities of all entries to the fronts of the lists.
+fn take(entries: &Entries<'_>, numbers: &mut [u16], priorities: &mut [u8])
+    requires { (length numbers.old ≡ 64) × (length priorities.old ≡ 64) }
+    ensures numbers { numbers.new ≡ onto (numbers_in entries.now.block.now) numbers.old }
+    ensures priorities { priorities.new ≡ onto (priorities_in entries.now.block.now) priorities.old }
 {
-    let mut k: usize = 0;
-    while k < count {
-        priorities[k] = layout::priority_in(block, edition, k);
-        k += 1;
+    for k in 0..entries.count {
+        numbers[k] = entries.number(k);
+        priorities[k] = entries.priority(k);
     }
 }
 
@@ -164,7 +114,5 @@ fn three_at(bytes: &[u8], i: usize) -> u32
     requires { i + 3 ≤ length bytes.now }
     ensures { (result ≡ field bytes.now (i * 8) 24) × (result < 2 ^ 24) }
 {
-    layout::wide(bytes[i]) * 0x1_0000
-        + layout::wide(bytes[i + 1]) * 0x100
-        + layout::wide(bytes[i + 2])
+    u32::from_be_bytes([0, bytes[i], bytes[i + 1], bytes[i + 2]])
 }

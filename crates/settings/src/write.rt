@@ -1,88 +1,61 @@
 // Writing a settings block.
-ghost use Rattle.std.specs.Prelude.{◌≡◌, ◌+◌, ◌≤◌, ◌<◌, ◌^◌, length};
+ghost use Rattle.std.specs.Prelude.{◌≡◌, ◌+◌, ◌≤◌, ◌<◌, ◌^◌, length, position, zip};
 ghost use Rattle.bits.specs.Outcome.{outcome};
 ghost use Rattle.bits.specs.Onto.{onto, over};
 ghost use Rattle.bits.specs.Crc.{three_bytes};
-ghost use Rattle.settings.specs.Block.{known, listed, byte_of, block_of};
-ghost use Rattle.settings.specs.Write.{bad_of, write_settings};
+ghost use Rattle.settings.specs.Block.{bad, listed, byte_of, block_of};
+ghost use Rattle.settings.specs.Edition.{number_of};
+ghost use Rattle.settings.specs.Write.{write_settings};
 ghost use Rattle.settings.specs.Answers.{told_written};
 
 use crate::layout;
+use crate::layout::Edition;
 use bits::crc;
+use bits::refusal::Refusal;
 
-// What writing answers: a block of 512 bytes; or a refusal.
-#[derive(Clone, Copy)]
-pub enum Written {
-    Block,
-    Kind,
-    Size,
-    // Carries the index of the bad number or priority; 0 for the block's index.
-    Range(usize),
-    Room,
-}
-
-// Writes the numbers, and in edition 2 their priorities, as the block of this index to the front of the output.
+// Writes the numbers, and in edition 2 their priorities, as the block of this index to the front of the output. Range carries
+// the index of the bad number or priority; 0 for the block's index.
 pub fn write(
     edition: u32,
     index: u32,
     numbers: &[u16],
     priorities: &[u8],
     out: &mut [u8],
-) -> Written
+) -> Result<(), Refusal>
     ensures { outcome (told_written result) out.new ≡ write_settings edition index numbers.now priorities.now out.old }
 {
-    if !known(edition) {
-        return Written::Kind;
+    let edition = Edition::try_from(edition)?;
+    if numbers.len() != priorities.len() || 64 < numbers.len() {
+        return Err(Refusal::Size);
     }
-    if numbers.len() != priorities.len() {
-        return Written::Size;
-    }
-    if 64 < numbers.len() {
-        return Written::Size;
-    }
-    if 65535 < index {
-        return Written::Range(0);
-    }
-    let k = first_bad(edition, numbers, priorities);
-    if k < numbers.len() {
-        return Written::Range(k);
+    let Ok(index) = u16::try_from(index) else {
+        return Err(Refusal::Range(0));
+    };
+    if let Some(k) = first_bad(edition, numbers, priorities) {
+        return Err(Refusal::Range(k));
     }
     if out.len() < 512 {
-        return Written::Room;
+        return Err(Refusal::Room(512));
     }
     put_block(edition, index, numbers, priorities, out);
-    Written::Block
+    Ok(())
 }
 
-// Whether there is such an edition.
-fn known(edition: u32) -> bool
-    ensures { result ≡ known edition }
-{
-    if edition == 1 {
-        return true;
-    }
-    edition == 2
-}
-
-// The first entry with a bad number or priority, or the number of entries.
-fn first_bad(edition: u32, numbers: &[u16], priorities: &[u8]) -> usize
+// The first entry with a bad number or priority.
+fn first_bad(edition: Edition, numbers: &[u16], priorities: &[u8]) -> Option<usize>
     requires { length numbers.now ≡ length priorities.now }
-    ensures { result ≡ bad_of edition numbers.now priorities.now }
+    ensures { result ≡ position (λ e. bad (number_of edition) e.0 e.1) (zip numbers.now priorities.now) }
 {
-    let mut k: usize = 0;
-    while k < numbers.len() {
-        if layout::bad(edition, numbers[k], priorities[k]) {
-            return k;
-        }
-        k += 1;
-    }
-    k
+    numbers
+        .iter()
+        .zip(priorities)
+        .position(|(number, priority)| edition.forbids(*number, *priority))
 }
 
 // Writes the block over the first 512 bytes.
-fn put_block(edition: u32, index: u32, numbers: &[u16], priorities: &[u8], out: &mut [u8])
-    requires { (length numbers.now ≡ length priorities.now) × (length numbers.now ≤ 64) × (index ≤ 65535) × (edition ≤ 2) × (512 ≤ length out.old) }
-    ensures { out.new ≡ onto (block_of edition index numbers.now priorities.now) out.old }
+fn put_block(edition: Edition, index: u16, numbers: &[u16], priorities: &[u8], out: &mut [u8])
+    requires { (length numbers.now ≡ length priorities.now) × (length numbers.now ≤ 64) × (512 ≤ length out.old) }
+    ensures { out.new ≡ onto (block_of (number_of edition) index numbers.now priorities.now) out.old }
 {
     put_bytes(edition, index, numbers, priorities, out);
     let sum = crc::crc24q(&out[0..509]);
@@ -90,14 +63,12 @@ fn put_block(edition: u32, index: u32, numbers: &[u16], priorities: &[u8], out: 
 }
 
 // Writes the first 509 bytes of the block.
-fn put_bytes(edition: u32, index: u32, numbers: &[u16], priorities: &[u8], out: &mut [u8])
-    requires { (length numbers.now ≡ length priorities.now) × (length numbers.now ≤ 64) × (index ≤ 65535) × (edition ≤ 2) × (512 ≤ length out.old) }
-    ensures { out.new ≡ onto (listed (byte_of edition index numbers.now priorities.now) 0 509) out.old }
+fn put_bytes(edition: Edition, index: u16, numbers: &[u16], priorities: &[u8], out: &mut [u8])
+    requires { (length numbers.now ≡ length priorities.now) × (length numbers.now ≤ 64) × (512 ≤ length out.old) }
+    ensures { out.new ≡ onto (listed (byte_of (number_of edition) index numbers.now priorities.now) 0 509) out.old }
 {
-    let mut i: usize = 0;
-    while i < 509 {
+    for i in 0..509 {
         out[i] = layout::byte_of(edition, index, numbers, priorities, i);
-        i += 1;
     }
 }
 

@@ -13,7 +13,7 @@ returns-then-h-i c = let a = c.args in late a.held.now a.piece.now a.seam.now a.
 pub returns : goal.returns
 returns c =
     let a = c.args in
-    let m = c.least-m.result in
+    let m = c.min-m.result in
     c.put_at-2.ensures
     ∙ ap (over (a.i + m) (take (a.n - m - 0) a.piece.now)) c.put_at.ensures
-    ∙ early a.held.now a.piece.now a.seam.now a.i a.n m (omega arith) (omega arith) c.least-m.ensures
+    ∙ early a.held.now a.piece.now a.seam.now a.i a.n m (omega arith) (omega arith) c.min-m.ensures

@@ -1,4 +1,5 @@
 -- The first k frames are filled in. Assumes nothing.
+use mathlib.Core.Path.{refl}
 use native.Mathlib.Omega.{arith}
 use borrow.Author.Rules.{rules}
 use Rattle.batch.proofs.FillLaws.{filled_none, next_part, fill_turn, all_copied, all_told}
@@ -18,13 +19,13 @@ copy_early-requires c =
     let p = c.requires in
     let l = c.loop-k.invariant.0 in
     let q = next_part _ _ _ _ _ _ _ _ _ _ l c.loop-k-test.true p.same in
-    (omega (arith, q.0, c.size_of-place.ensures, c.size_of.ensures), omega (arith, q.2, c.size_of.ensures, p.held, p.area, l.area))
+    (omega (arith, q.0), omega (arith, q.2, p.held, p.area, l.area))
 
 pub kind_at-requires : goal.kind_at-requires
 kind_at-requires c =
     let p = c.requires in
     let q = next_part _ _ _ _ _ _ _ _ _ _ c.loop-k.invariant.0 c.loop-k-test.true p.same in
-    omega (arith, q.0, q.1, c.size_of-place.ensures)
+    omega (arith, q.0, q.1)
 
 pub bounds-kinds-k : goal.bounds-kinds-k
 bounds-kinds-k c = omega (arith, c.requires.room, c.loop-k.invariant.0.room)
@@ -34,7 +35,7 @@ loop-k-smaller c = omega arith
 
 pub loop-k-preserved : goal.loop-k-preserved
 loop-k-preserved c =
-    (fill_turn _ _ _ _ _ _ _ _ _ _ c.loop-k.invariant.0 c.loop-k-test.true c.requires.same _ _ _ c.size_of-place.ensures c.size_of.ensures c.kind_at.ensures _ c.copy_early.ensures (search rules), omega arith)
+    (fill_turn _ _ _ _ _ _ _ _ _ _ c.loop-k.invariant.0 c.loop-k-test.true c.requires.same _ _ _ refl refl c.kind_at.ensures _ c.copy_early.ensures (search rules), omega arith)
 
 pub shape_of-seam : goal.shape_of-seam
 shape_of-seam c = c.loop-k.invariant.0.area

@@ -1,20 +1,26 @@
 -- Each refusal in its order; then the value of the first place, or Absent. Assumes nothing.
-use mathlib.Core.Path.{sym, ◌∙◌}
-use Rattle.cache.specs.Cache.{key}
-use Rattle.cache.proofs.CodeLaws.{lookup_size, lookup_key, found_there, not_found, at_key, no_value}
+use Rattle.std.proofs.Common.{◌∙◌, ap, Some, None}
+use Rattle.bits.specs.Told.{Accepted}
+use Rattle.bits.specs.Outcome.{outcome}
+use mathlib.Core.Option.{some}
+use Rattle.cache.specs.Cache.{Value, value, Lookup}
+use Rattle.cache.specs.Answers.{key_of}
+use Rattle.cache.proofs.CodeLaws.{refused, taken, place_of, looked_up, no_value}
 use Rattle.cache.proofs.cache.lookup.Goals as goal
 
-pub returns-then-entries-gt512 : goal.returns-then-entries-gt512
-returns-then-entries-gt512 c = let a = c.args in lookup_size (key a.key.provider a.key.solution a.key.satellite a.key.signal) a.entries.now c.if-entries-gt512.true
-
-pub returns-then-not-fits_key : goal.returns-then-not-fits_key
-returns-then-not-fits_key c = let a = c.args in lookup_key (key a.key.provider a.key.solution a.key.satellite a.key.signal) a.entries.now c.if-entries-gt512.false (sym c.fits_key.ensures ∙ c.if-not-fits_key.true)
+pub returns-in_err-admit : goal.returns-in_err-admit
+returns-in_err-admit c = refused _ _ _ c.fits_key.ensures _ _ _ c.in_err-admit.ensures c.from_residual.ensures.1
 
 pub entry_of-requires : goal.entry_of-requires
-entry_of-requires c = ((sym c.fits_key.ensures ∙ c.if-not-fits_key.false), no_value)
+entry_of-requires c = ((taken (Lookup (key_of c.args.key)) _ _ c.fits_key.ensures _ c.in_ok-admit.ensures).0, no_value)
 
-pub returns-then-i-entries : goal.returns-then-i-entries
-returns-then-i-entries c = let a = c.args in found_there (key a.key.provider a.key.solution a.key.satellite a.key.signal) a.entries.now c.if-entries-gt512.false (sym c.fits_key.ensures ∙ c.if-not-fits_key.false) _ (at_key a.key.provider a.key.solution a.key.satellite a.key.signal 0 0 _ a.entries.now _ c.entry_of.ensures c.place-i.ensures) c.if-i-entries.true _ _ c.wide.ensures c.widened.ensures
+pub returns-in-None : goal.returns-in-None
+returns-in-None c =
+    looked_up _ _ None (place_of (key_of c.args.key) (value 0 0) _ _ None c.entry_of.ensures c.in-None.ensures)
+    ∙ (taken (Lookup (key_of c.args.key)) _ _ c.fits_key.ensures _ c.in_ok-admit.ensures).1
 
-pub returns : goal.returns
-returns c = let a = c.args in not_found (key a.key.provider a.key.solution a.key.satellite a.key.signal) a.entries.now c.if-entries-gt512.false (sym c.fits_key.ensures ∙ c.if-not-fits_key.false) _ (at_key a.key.provider a.key.solution a.key.satellite a.key.signal 0 0 _ a.entries.now _ c.entry_of.ensures c.place-i.ensures) c.if-i-entries.false
+pub returns-in-Some : goal.returns-in-Some
+returns-in-Some c =
+    ap (λ (v : Value). outcome (Accepted (some v)) c.args.entries.now) c.value_in.ensures
+    ∙ looked_up _ _ (Some c.in-Some.i) (place_of (key_of c.args.key) (value 0 0) _ _ (Some c.in-Some.i) c.entry_of.ensures c.in-Some.ensures)
+    ∙ (taken (Lookup (key_of c.args.key)) _ _ c.fits_key.ensures _ c.in_ok-admit.ensures).1

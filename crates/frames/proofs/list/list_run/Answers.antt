@@ -1,8 +1,10 @@
 -- The loop has come to place i with k frames listed, no earlier than where it began. Assumes nothing.
-use mathlib.Core.Path.{refl}
+use mathlib.Core.Path.{◌≡◌, refl, sym, ap, ◌∙◌}
+use mathlib.Core.Bool.{false}
 use native.Mathlib.Omega.{arith}
 use lib.ListN.{length-append}
 use Rattle.frames.specs.Modes.{framing_of}
+use Rattle.frames.specs.ListSteps.{listed}
 use Rattle.frames.proofs.ListLaws.{by_numbers, reached_so, stops_at, good_few, good_inside, lists}
 use Rattle.frames.proofs.list.list_run.Goals as goal
 
@@ -68,21 +70,11 @@ overflow_add-framed c =
     let p = c.requires.0 in
     record { fits = omega (arith, p.held, p.piece, c.loop-k.invariant.0.counted, length-append a.held.now a.piece.now, good_inside _ _ _ _ _ _ _ _ _ _ _ _ _ _ c.loop-k.invariant.0 c.loop-k-test.true _ (c.in-Some.ensures)) }
 
-pub overflow_add-k : goal.overflow_add-k
-overflow_add-k c =
-    let a = c.args in
-    let p = c.requires.0 in
-    let l = c.loop-k.invariant.0 in
-    record { fits = omega (arith, p.held, p.piece, l.each, l.counted, l.inside, length-append a.held.now a.piece.now) }
-
 pub overflow_add-i : goal.overflow_add-i
 overflow_add-i c =
     let a = c.args in
     let p = c.requires.0 in
     record { fits = omega (arith, p.held, p.piece, length-append a.held.now a.piece.now, good_inside _ _ _ _ _ _ _ _ _ _ _ _ _ _ c.loop-k.invariant.0 c.loop-k-test.true _ (c.in-Some.ensures)) }
-
-pub loop-k-smaller : goal.loop-k-smaller
-loop-k-smaller c = omega arith
 
 pub loop-k-preserved : goal.loop-k-preserved
 loop-k-preserved c = (lists _ _ _ _ _ _ _ _ _ _ _ _ _ _ c.loop-k.invariant.0 c.loop-k-test.true _ (c.in-Some.ensures), omega (arith, c.loop-k.invariant.1))
@@ -96,8 +88,10 @@ shape_of-lengths c = c.loop-k.invariant.0.lengths
 pub returns : goal.returns
 returns c =
     let a = c.args in
-    let l = c.loop-k.invariant.0 in (
-      reached_so _ _ c.ended-2.ensures (omega (arith, l.inside, length-append a.held.now a.piece.now)) l.counted l.each l.most,
-      by_numbers (framing_of c.args.mode) _ _ c.loop-k.starts c.loop-k.lengths c.ended-2.ensures l.leads,
-      omega (arith, c.loop-k.invariant.1, stops_at c.ended-2.ensures),
+    let e : c.loop-k.k ≡ a.places = omega (arith, c.loop-k.invariant.0.most) in
+    let l = c.loop-k.invariant.0 in
+    let ended = c.ended-2.ensures ∙ ap (λ k. listed k c.loop-k.i c.loop-k.framed false) (sym e) in (
+      reached_so _ _ ended (omega (arith, l.inside, length-append a.held.now a.piece.now)) l.counted l.each l.most,
+      by_numbers (framing_of c.args.mode) _ _ c.loop-k.starts c.loop-k.lengths ended l.leads,
+      omega (arith, c.loop-k.invariant.1, stops_at ended),
     )

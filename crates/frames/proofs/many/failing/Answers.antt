@@ -1,7 +1,14 @@
 -- The start byte says which window decides. Assumes nothing.
-use mathlib.Core.Path.{sym, ◌∙◌}
+use mathlib.Core.Path.{◌≡◌, sym, ◌∙◌}
 use mathlib.Core.List.{◌++◌}
-use lib.ListN.{get_or}
+use Prim.Native.Nat.{ℕ}
+use lib.ListN.{get_or, drop}
+use Rattle.frames.specs.Rtcm.{rtcm}
+use Rattle.frames.specs.Ubx.{ubx}
+use Rattle.frames.specs.Modes.{framing_of}
+use Rattle.frames.specs.Steps.{candidate}
+use Rattle.frames.specs.declared.scan.Candidate.TheVariants.{NotValid}
+use Rattle.std.proofs.lemmas.Option.{IfSome_then}
 use Rattle.frames.proofs.SeamLaws.{at_right}
 use Rattle.frames.proofs.CandidateLaws.{first_is}
 use Rattle.frames.proofs.UbxCandidateLaws.{at_b5, b5_both, other_d3, at_other}
@@ -18,7 +25,7 @@ returns-then-piece-i c =
     let a = c.args in
     let p = c.requires in
     let b = sym (at_right a.held.now a.piece.now a.i p.0) ∙ c.if-piece-i.true in
-    λ f. c.ubx_failing.ensures f ∙ at_b5 a.mode _ (b5_both a.mode _ b p.3) (first_is (a.held.now ++ a.piece.now) a.i ∙ b)
+    IfSome_then {X = ℕ} c.ubx_failing.result {P = λ n. NotValid n ≡ candidate ubx (drop a.i (a.held.now ++ a.piece.now))} {Q = λ n. NotValid n ≡ candidate (framing_of a.mode) (drop a.i (a.held.now ++ a.piece.now))} c.ubx_failing.ensures (λ n f. f ∙ at_b5 a.mode _ (b5_both a.mode _ b p.3) (first_is (a.held.now ++ a.piece.now) a.i ∙ b))
 
 pub rtcm_failing-requires : goal.rtcm_failing-requires
 rtcm_failing-requires c =
@@ -30,4 +37,4 @@ pub returns : goal.returns
 returns c =
     let a = c.args in
     let p = c.requires in
-    λ f. c.rtcm_failing.ensures f ∙ at_other a.mode _ (λ q. c.if-piece-i.false (at_right a.held.now a.piece.now a.i p.0 ∙ sym (first_is (a.held.now ++ a.piece.now) a.i) ∙ q))
+    IfSome_then {X = ℕ} c.rtcm_failing.result {P = λ n. NotValid n ≡ candidate rtcm (drop a.i (a.held.now ++ a.piece.now))} {Q = λ n. NotValid n ≡ candidate (framing_of a.mode) (drop a.i (a.held.now ++ a.piece.now))} c.rtcm_failing.ensures (λ n f. f ∙ at_other a.mode _ (λ q. c.if-piece-i.false (at_right a.held.now a.piece.now a.i p.0 ∙ sym (first_is (a.held.now ++ a.piece.now) a.i) ∙ q)))

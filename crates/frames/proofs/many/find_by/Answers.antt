@@ -51,7 +51,7 @@ pub overflow_add-j : goal.overflow_add-j
 overflow_add-j c = let a = c.args in record { fits = sum_fits c.next_start-j.result c.in-Good.n (length a.held.now + length a.piece.now) (good_fits _ _ _ _ _ _ _ _ c.loop-i.invariant.0 _ c.next_start-j.ensures _ (sym c.in-Good.is ∙ c.judge-judged.ensures.0)) c.requires.2 }
 
 pub overflow_sub-result : goal.overflow_sub-result
-overflow_sub-result c = omega (arith, c.loop-i.invariant.0.behind, c.most.ensures)
+overflow_sub-result c = omega (arith, c.loop-i.invariant.0.behind, c.max.ensures)
 
 pub shape_of-runs-in-Good : goal.shape_of-runs-in-Good
 shape_of-runs-in-Good c = c.judge-judged.ensures.4 ∙ c.loop-i.invariant.4
@@ -60,7 +60,7 @@ pub returns-in-Good : goal.returns-in-Good
 returns-in-Good c =
     let a = c.args in
     let j = c.next_start-j in
-    ap (λ m. Frame j.result c.in-Good.n (m - length a.held.now)) c.most.ensures
+    ap (λ m. Frame j.result c.in-Good.n (m - length a.held.now)) c.max.ensures
     ∙ finds _ _ _ _ _ _ _ _ c.loop-i.invariant.0 _ c.next_start-j.ensures _ (sym c.in-Good.is ∙ c.judge-judged.ensures.0)
 
 pub overflow_add-j-in-NotValid : goal.overflow_add-j-in-NotValid
@@ -73,7 +73,7 @@ pub pass_both-on-requires : goal.pass_both-on-requires
 pass_both-on-requires c =
     let p = c.requires in
     let w = c.judge-judged.ensures in
-    let g = subst (Came _ _ _ _ _ _ _) (sym c.most-taken.ensures) (passed _ _ _ _ _ _ _ _ c.loop-i.invariant.0 _ c.next_start-j.ensures _ (sym c.in-NotValid.is ∙ w.0)) in
+    let g = subst (Came _ _ _ _ _ _ _) (sym c.max-taken.ensures) (passed _ _ _ _ _ _ _ _ c.loop-i.invariant.0 _ c.next_start-j.ensures _ (sym c.in-NotValid.is ∙ w.0)) in
     (p.6, omega arith, g.behind, p.2, less_again _ _ w.1, less_again _ _ w.2, w.3)
 
 pub loop-i-smaller : goal.loop-i-smaller
@@ -83,7 +83,7 @@ pub loop-i-preserved : goal.loop-i-preserved
 loop-i-preserved c =
     let p = c.pass_both-on.ensures in
     let w = c.judge-judged.ensures in
-    let g = subst (Came _ _ _ _ _ _ _) (sym c.most-taken.ensures) (passed _ _ _ _ _ _ _ _ c.loop-i.invariant.0 _ c.next_start-j.ensures _ (sym c.in-NotValid.is ∙ w.0)) in
+    let g = subst (Came _ _ _ _ _ _ _) (sym c.max-taken.ensures) (passed _ _ _ _ _ _ _ _ c.loop-i.invariant.0 _ c.next_start-j.ensures _ (sym c.in-NotValid.is ∙ w.0)) in
     (record { behind = p.behind; reached = p.reaches g.reached }, omega (arith, w.1, p.on), omega (arith, w.2, p.on), w.3, w.4 ∙ c.loop-i.invariant.4)
 
 pub shape_of-runs : goal.shape_of-runs

@@ -36,13 +36,13 @@ pub overflow_add-j : goal.overflow_add-j
 overflow_add-j c = record { fits = omega (arith, good_fits _ _ _ _ _ _ _ _ c.loop-i.invariant.0 _ c.next_start-j.ensures _ (sym c.in-Good.is ∙ c.rtcm_in.ensures)) }
 
 pub overflow_sub-result : goal.overflow_sub-result
-overflow_sub-result c = omega (arith, c.loop-i.invariant.0.behind, c.most.ensures)
+overflow_sub-result c = omega (arith, c.loop-i.invariant.0.behind, c.max.ensures)
 
 pub returns-in-Good : goal.returns-in-Good
 returns-in-Good c =
     let a = c.args in
     let j = c.next_start-j in
-    ap (λ m. Frame j.result c.in-Good.n (m - length a.held.now)) c.most.ensures ∙ finds _ _ _ _ _ _ _ _ c.loop-i.invariant.0 _ c.next_start-j.ensures _ (sym c.in-Good.is ∙ c.rtcm_in.ensures)
+    ap (λ m. Frame j.result c.in-Good.n (m - length a.held.now)) c.max.ensures ∙ finds _ _ _ _ _ _ _ _ c.loop-i.invariant.0 _ c.next_start-j.ensures _ (sym c.in-Good.is ∙ c.rtcm_in.ensures)
 
 pub overflow_add-j-in-NotValid : goal.overflow_add-j-in-NotValid
 overflow_add-j-in-NotValid c = record { fits = omega (arith, bad_fits _ _ _ _ _ _ _ _ c.loop-i.invariant.0 _ c.next_start-j.ensures _ (sym c.in-NotValid.is ∙ c.rtcm_in.ensures)) }
@@ -53,7 +53,7 @@ overflow_add-j-in-NotValid-2 c = record { fits = omega arith }
 pub pass-on-requires : goal.pass-on-requires
 pass-on-requires c =
     let w = c.cover-window.ensures in
-    let g = subst (Came _ _ _ _ _ _ _) (sym c.most-taken.ensures) (passed _ _ _ _ _ _ _ _ c.loop-i.invariant.0 _ c.next_start-j.ensures _ (sym c.in-NotValid.is ∙ c.rtcm_in.ensures)) in
+    let g = subst (Came _ _ _ _ _ _ _) (sym c.max-taken.ensures) (passed _ _ _ _ _ _ _ _ c.loop-i.invariant.0 _ c.next_start-j.ensures _ (sym c.in-NotValid.is ∙ c.rtcm_in.ensures)) in
     (omega arith, g.behind, c.requires.2, less_again _ _ w.0, w.2)
 
 pub loop-i-smaller : goal.loop-i-smaller
@@ -63,7 +63,7 @@ pub loop-i-preserved : goal.loop-i-preserved
 loop-i-preserved c =
     let w = c.cover-window.ensures in
     let p = c.pass-on.ensures in
-    let g = subst (Came _ _ _ _ _ _ _) (sym c.most-taken.ensures) (passed _ _ _ _ _ _ _ _ c.loop-i.invariant.0 _ c.next_start-j.ensures _ (sym c.in-NotValid.is ∙ c.rtcm_in.ensures)) in
+    let g = subst (Came _ _ _ _ _ _ _) (sym c.max-taken.ensures) (passed _ _ _ _ _ _ _ _ c.loop-i.invariant.0 _ c.next_start-j.ensures _ (sym c.in-NotValid.is ∙ c.rtcm_in.ensures)) in
     (record { behind = p.behind; reached = p.reaches g.reached }, omega (arith, w.0, p.on), w.2, w.3)
 
 pub returns : goal.returns

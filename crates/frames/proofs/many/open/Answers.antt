@@ -11,7 +11,7 @@ use Rattle.frames.proofs.many.open.Goals as goal
 pub returns : goal.returns
 returns c =
     let a = c.args in
-    let n = c.least-n in
+    let n = c.min-n in
     let s = a.held.now ++ a.piece.now in
     let fits = length-append a.held.now a.piece.now in
     let e = c.tails.ensures ∙ ap (λ (l : List ℕ). stored (take (n.result - 0) l) a.sums.now) c.gather.ensures in (

@@ -1,7 +1,6 @@
 -- The bytes of the window are copied, and the sums of the copy are theirs. Assumes nothing.
-use mathlib.Core.Path.{refl, ap, ◌∙◌}
+use mathlib.Core.Path.{refl, ◌∙◌}
 use mathlib.Core.List.{◌++◌}
-use Prim.Native.Nat.{ℕ, ◌+◌}
 use native.Mathlib.Omega.{arith}
 use lib.ListN.{length-append}
 use Rattle.frames.proofs.RunLaws.{opened_runs}
@@ -10,12 +9,12 @@ use Rattle.frames.proofs.many.open_runs.Goals as goal
 pub returns : goal.returns
 returns c =
     let a = c.args in
-    let n = c.least-n in
+    let n = c.min-n in
     let s = a.held.now ++ a.piece.now in
     let fits = length-append a.held.now a.piece.now in
     let r = c.runs.ensures in (
       refl,
-      ap (λ (k : ℕ). a.i + k) n.ensures,
+      omega (arith, n.ensures),
       opened_runs s _ _ _ a.i n.result (omega (arith, n.ensures, fits)) (omega (arith, n.ensures, r.1, c.requires.2)) c.gather.ensures r.0,
       r.1 ∙ c.requires.2,
     )

@@ -29,22 +29,22 @@ overflow_add-j c = record { fits = omega (arith, c.next_either.ensures.within, c
 pub returns-then-all-j : goal.returns-then-all-j
 returns-then-all-j c = c.loop-i.invariant
 
-pub failing-n-requires : goal.failing-n-requires
-failing-n-requires c =
+pub failing-requires : goal.failing-requires
+failing-requires c =
     let a = c.args in
     let p = c.requires in
     let t = in_both _ _ _ _ c.requires.0 (start_right starts_either c.args.held.now c.args.piece.now c.loop-i.i _ c.if-i-h.false c.next_either.ensures) in
     let i = c.loop-i.invariant in
     (omega arith, omega arith, p.3, t.there (omega (arith, length-append a.held.now a.piece.now)), omega (arith, p.4, i.on, t.from), omega (arith, p.5, i.on, t.from), p.6)
 
-pub returns-then-n-eq0 : goal.returns-then-n-eq0
-returns-then-n-eq0 c = c.loop-i.invariant
+pub returns-in_default : goal.returns-in_default
+returns-in_default c = c.loop-i.invariant
 
 pub overflow_add-j-in-loop-i : goal.overflow_add-j-in-loop-i
 overflow_add-j-in-loop-i c =
     let a = c.args in
     let p = c.requires in
-    record { fits = omega (arith, p.3, fail_fits (framing_of a.mode) (lawful a.mode) (starts_in a.mode) (mode_starts a.mode) a.held.now a.piece.now (length a.held.now + c.next_either.result) c.failing-n.result (omega arith) (c.failing-n.ensures c.if-n-eq0.false)) }
+    record { fits = omega (arith, p.3, fail_fits (framing_of a.mode) (lawful a.mode) (starts_in a.mode) (mode_starts a.mode) a.held.now a.piece.now (length a.held.now + c.next_either.result) c.in-Some.n (omega arith) c.in-Some.ensures) }
 
 pub overflow_add-i : goal.overflow_add-i
 overflow_add-i c = record { fits = omega (arith, c.requires.3) }
@@ -57,7 +57,7 @@ loop-i-preserved c =
     let a = c.args in
     let p = c.requires in
     let t = in_both _ _ _ _ c.requires.0 (start_right starts_either c.args.held.now c.args.piece.now c.loop-i.i _ c.if-i-h.false c.next_either.ensures) in
-    subst (Passes (framing_of a.mode) a.held.now a.piece.now a.from a.first _) (sym c.most-end.ensures) (pass_more (framing_of a.mode) (lawful a.mode) (starts_in a.mode) (mode_starts a.mode) a.held.now a.piece.now _ _ _ _ c.loop-i.invariant _ t _ (c.failing-n.ensures c.if-n-eq0.false))
+    subst (Passes (framing_of a.mode) a.held.now a.piece.now a.from a.first _) (sym c.max-end.ensures) (pass_more (framing_of a.mode) (lawful a.mode) (starts_in a.mode) (mode_starts a.mode) a.held.now a.piece.now _ _ _ _ c.loop-i.invariant _ t _ c.in-Some.ensures)
 
 pub returns : goal.returns
 returns c = c.loop-i.invariant

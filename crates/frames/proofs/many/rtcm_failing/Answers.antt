@@ -1,5 +1,4 @@
 -- Two sums of the window say that the candidate fails. Assumes nothing.
-use mathlib.Core.Path.{refl}
 use native.Mathlib.Omega.{arith}
 use Prim.Native.Nat.{◌-◌}
 use lib.ListN.{length, length-append}
@@ -7,20 +6,14 @@ use Rattle.frames.proofs.ManyLaws.{both_bytes}
 use Rattle.frames.proofs.PassLaws.{rtcm_fails}
 use Rattle.frames.proofs.many.rtcm_failing.Goals as goal
 
-pub returns-then-stop-least : goal.returns-then-stop-least
-returns-then-stop-least c = λ f. absurd (f refl)
-
 pub data_length-n-requires : goal.data_length-n-requires
-data_length-n-requires c = let a = c.args in let l = length-append a.held.now a.piece.now in omega (arith, l, c.requires.5.within, c.least.ensures)
-
-pub returns-then-sums-place : goal.returns-then-sums-place
-returns-then-sums-place c = λ f. absurd (f refl)
+data_length-n-requires c = let a = c.args in let l = length-append a.held.now a.piece.now in omega (arith, l, c.requires.5.within, c.saturating_sub.ensures)
 
 pub returns : goal.returns
 returns c =
     let a = c.args in
     let p = c.requires in
     let n = c.data_length-n.ensures in
-    λ f. rtcm_fails a.held.now a.piece.now a.sums.now a.base a.stop p.5
+    rtcm_fails a.held.now a.piece.now a.sums.now a.base a.stop p.5
     (both_bytes a.held.now a.piece.now (λ k. (c.type_inv.held k).fits) (λ k. (c.type_inv.piece k).fits))
-    a.i (a.i - length a.held.now) (omega (arith, p.0)) p.4 (omega (arith, c.least.ensures)) p.3 _ n.0 n.1 c.if-sums-place.false
+    a.i (a.i - length a.held.now) (omega (arith, p.0)) p.4 (omega (arith, c.saturating_sub.ensures)) p.3 _ n.0 n.1 c.if-sums-place.false

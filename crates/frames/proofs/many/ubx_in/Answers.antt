@@ -7,21 +7,15 @@ use Rattle.frames.specs.Steps.{Claim}
 use Rattle.frames.proofs.many.ubx_in.Goals as goal
 
 pub overflow_sub-n : goal.overflow_sub-n
-overflow_sub-n c = let a = c.args in (subst (Claim (a.held.now ++ a.piece.now) a.i) c.in-Good.is c.claim.ensures).0
+overflow_sub-n c = let a = c.args in (subst (Claim (a.held.now ++ a.piece.now) a.i) c.in-Good.is c.claim-claimed.ensures).0
 
 pub sums_in-requires : goal.sums_in-requires
 sums_in-requires c =
     let a = c.args in
     let l = length-append a.held.now a.piece.now in
     let p = c.requires in
-    let w = subst (Claim (a.held.now ++ a.piece.now) a.i) c.in-Good.is c.claim.ensures in
+    let w = subst (Claim (a.held.now ++ a.piece.now) a.i) c.in-Good.is c.claim-claimed.ensures in
     (omega arith, p.2, p.3, omega (arith, l, p.4, w.0, w.1.2, w.1.3), w.1, p.5)
 
-pub returns-in-Incomplete : goal.returns-in-Incomplete
-returns-in-Incomplete c = let a = c.args in subst (Claim (a.held.now ++ a.piece.now) a.i) c.in-Incomplete.is c.claim.ensures
-
-pub returns-in-NotValid : goal.returns-in-NotValid
-returns-in-NotValid c = let a = c.args in subst (Claim (a.held.now ++ a.piece.now) a.i) c.in-NotValid.is c.claim.ensures
-
-pub returns-in-Good : goal.returns-in-Good
-returns-in-Good c = c.sums_in.ensures
+pub returns : goal.returns
+returns c = c.sums_in.ensures

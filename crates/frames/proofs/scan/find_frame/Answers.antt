@@ -21,4 +21,4 @@ returns-then-still_waits c =
 pub returns-then-mode-eq0 : goal.returns-then-mode-eq0
 returns-then-mode-eq0 c =
     let a = c.args in
-    c.first_rtcm.ensures ∙ ap (λ m. searched (feed (decide (framing_of m)) a.held.now a.piece.now)) (sym c.if-mode-eq0.true)
+    c.first_frame.ensures ∙ ap (λ m. searched (feed (decide (framing_of m)) a.held.now a.piece.now)) (sym c.if-mode-eq0.true)

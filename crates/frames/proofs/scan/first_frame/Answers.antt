@@ -37,13 +37,13 @@ pub overflow_add-start : goal.overflow_add-start
 overflow_add-start c = record { fits = omega (arith, good_fits _ _ _ _ _ _ _ _ c.loop-i.invariant.0 _ c.next_start-start.ensures _ (sym c.in-Good.is ∙ c.candidate_at.ensures)) }
 
 pub overflow_sub-result : goal.overflow_sub-result
-overflow_sub-result c = omega (arith, c.loop-i.invariant.0.behind, c.most.ensures)
+overflow_sub-result c = omega (arith, c.loop-i.invariant.0.behind, c.max.ensures)
 
 pub returns-in-Good : goal.returns-in-Good
 returns-in-Good c =
     let a = c.args in
     let j = c.next_start-start in
-    ap (λ m. Frame j.result c.in-Good.n (m - length a.held.now)) c.most.ensures ∙ finds _ _ _ _ _ _ _ _ c.loop-i.invariant.0 _ c.next_start-start.ensures _ (sym c.in-Good.is ∙ c.candidate_at.ensures)
+    ap (λ m. Frame j.result c.in-Good.n (m - length a.held.now)) c.max.ensures ∙ finds _ _ _ _ _ _ _ _ c.loop-i.invariant.0 _ c.next_start-start.ensures _ (sym c.in-Good.is ∙ c.candidate_at.ensures)
 
 pub overflow_add-start-in-NotValid : goal.overflow_add-start-in-NotValid
 overflow_add-start-in-NotValid c = record { fits = omega (arith, bad_fits _ _ _ _ _ _ _ _ c.loop-i.invariant.0 _ c.next_start-start.ensures _ (sym c.in-NotValid.is ∙ c.candidate_at.ensures)) }
@@ -58,7 +58,7 @@ pub loop-i-preserved : goal.loop-i-preserved
 loop-i-preserved c =
     let l = c.loop-i in
     let j = c.next_start-start in
-    (subst (Came _ _ _ _ _ _ _) (sym c.most-end.ensures) (passed _ _ _ _ _ _ _ _ c.loop-i.invariant.0 _ c.next_start-start.ensures _ (sym c.in-NotValid.is ∙ c.candidate_at.ensures)), one_more_failed _ _ _ l.invariant.1 j.ensures.from)
+    (subst (Came _ _ _ _ _ _ _) (sym c.max-end.ensures) (passed _ _ _ _ _ _ _ _ c.loop-i.invariant.0 _ c.next_start-start.ensures _ (sym c.in-NotValid.is ∙ c.candidate_at.ensures)), one_more_failed _ _ _ l.invariant.1 j.ensures.from)
 
 pub returns : goal.returns
 returns c = all_skipped _ _ _ _ _ _ _ _ c.loop-i.invariant.0 (omega arith)

@@ -1,13 +1,10 @@
 -- The loop has passed neither D3 nor B5. Assumes nothing.
 use mathlib.Core.Path.{◌≡◌}
 use mathlib.Core.Bool.{false}
-use Prim.Native.Nat.{ℕ, ◌-◌, ◌≤◌, ◌<◌}
-use lib.ListN.{length, get_or}
+use Prim.Native.Nat.{ℕ, ◌≤◌, ◌<◌}
+use lib.ListN.{get_or}
 use Rattle.frames.specs.Steps.{starts_either}
 use Rattle.frames.proofs.scan.near_either.Given as goal
 
 abbrev pub invariant-loop-i : goal.invariant-loop-i
-invariant-loop-i l = (l.from ≤ l.i) × (l.i ≤ length l.part) × ((k : ℕ) → k < l.i → l.from ≤ k → starts_either (get_or l.part k 0) ≡ false)
-
-abbrev pub decreases-loop-i : goal.decreases-loop-i
-decreases-loop-i l = length l.part - l.i
+invariant-loop-i l = (k : ℕ) → k < l.i → l.from ≤ k → starts_either (get_or l.part k 0) ≡ false

@@ -11,4 +11,4 @@ returns-then-h-i c = let a = c.args in c.crc24q.ensures ∙ ap crc (part_right a
 pub returns : goal.returns
 returns c =
     let a = c.args in
-    c.crc24q_from.ensures ∙ sum_across a.held.now a.piece.now a.i a.n _ (omega arith) c.least-m.ensures _ c.crc24q-2.ensures
+    c.crc24q_from.ensures ∙ sum_across a.held.now a.piece.now a.i a.n _ (omega arith) c.min-m.ensures _ c.crc24q-2.ensures

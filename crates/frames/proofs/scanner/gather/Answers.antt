@@ -15,7 +15,7 @@ returns-then-h-i c =
 pub returns : goal.returns
 returns c =
     let a = c.args in
-    let m = c.least-m.result in
+    let m = c.min-m.result in
     c.put_at-3.ensures
     ∙ ap (over m (take (a.n - m - 0) a.piece.now)) c.put_at-2.ensures
-    ∙ gather_across a.held.now a.piece.now a.i a.n a.out.now m (omega arith) c.least-m.ensures
+    ∙ gather_across a.held.now a.piece.now a.i a.n a.out.now m (omega arith) c.min-m.ensures

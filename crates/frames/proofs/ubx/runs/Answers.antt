@@ -9,7 +9,7 @@ pub loop-k-init : goal.loop-k-init
 loop-k-init c = let a = c.args in running_first a.part.now a.out.now c.requires
 
 pub overflow_add-first : goal.overflow_add-first
-overflow_add-first c = record { fits = omega (arith, c.loop-k.invariant.first_small, c.wide.ensures.1) }
+overflow_add-first c = record { fits = omega (arith, c.loop-k.invariant.first_small, (c.type_inv.part c.loop-k.k).fits) }
 
 pub overflow_add-second : goal.overflow_add-second
 overflow_add-second c = record { fits = omega (arith, c.loop-k.invariant.second_small) }
@@ -30,7 +30,7 @@ pub loop-k-preserved : goal.loop-k-preserved
 loop-k-preserved c =
     let a = c.args in
     let l = c.loop-k in
-    running_more a.part.now _ (omega (arith, length-set a.out.now 0 0, c.requires)) l.out l.k l.first l.second _ _ _ _ (omega arith) l.invariant c.wide.ensures.0 refl refl refl
+    running_more a.part.now _ (omega (arith, length-set a.out.now 0 0, c.requires)) l.out l.k l.first l.second _ _ _ _ (omega arith) l.invariant refl refl refl refl
 
 pub shape_of-out : goal.shape_of-out
 shape_of-out c = c.loop-k.invariant.as_long ∙ length-set c.args.out.now 0 0

@@ -12,4 +12,4 @@ returns-then-h-i c = let a = c.args in c.sums_from.ensures.0 ∙ ap sums (part_r
 pub returns : goal.returns
 returns c =
     let a = c.args in
-    c.sums_from-3.ensures.0 ∙ sums_across a.held.now a.piece.now a.i a.n _ (omega arith) c.least-m.ensures _ c.sums_from-2.ensures.0
+    c.sums_from-3.ensures.0 ∙ sums_across a.held.now a.piece.now a.i a.n _ (omega arith) c.min-m.ensures _ c.sums_from-2.ensures.0

@@ -1,13 +1,7 @@
--- `messages::signals1059::is_edition` meets its contract: there are the editions from 1 on. Assumes nothing.
-use mathlib.Core.Path.{sym, ap}
-use mathlib.Core.Bool.{Bool, ◌&&◌}
-use native.Mathlib.Omega.{arith}
-use borrow.Author.Tests.{lt-ltb}
-use lib.Dec.{ltb}
+-- `messages::signals1059::is_edition` meets its contract: there is an edition where it is found. Assumes nothing.
+use mathlib.Core.Path.{◌∙◌}
+use Rattle.messages.proofs.ColumnLaws.{edition_found}
 use Rattle.messages.proofs.signals1059.is_edition.Goals as goal
 
-pub returns-then-edition-eq0 : goal.returns-then-edition-eq0
-returns-then-edition-eq0 c = rw c.if-edition-eq0.true
-
 pub returns : goal.returns
-returns c = let e = c.args.edition in ap (λ (b : Bool). b && ltb e 3) (sym (lt-ltb 0 e (omega arith)))
+returns c = c.is_ok.ensures.value ∙ edition_found c.args.edition _ c.try_from.ensures

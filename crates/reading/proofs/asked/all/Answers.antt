@@ -4,7 +4,7 @@ use Rattle.reading.proofs.AskedLaws.{one_more, none_seen}
 use Rattle.reading.proofs.asked.all.Goals as goal
 
 pub loop-i-init : goal.loop-i-init
-loop-i-init c = ([], c.nothing-asked.ensures ∙ none_seen, refl)
+loop-i-init g c = ([], c.nothing-asked.ensures ∙ none_seen, refl)
 
 pub loop-i-preserved : goal.loop-i-preserved
-loop-i-preserved c = one_more _ _ c.kind_at-kind.result _ c.noted-asked.ensures c.loop-i.invariant
+loop-i-preserved g c = one_more _ _ c.kind_of-kind.result _ c.noted-asked.ensures c.loop-i.invariant

@@ -3,4 +3,4 @@ use Rattle.reading.proofs.AskedLaws.{Known}
 use Rattle.reading.proofs.asked.all.Given as goal
 
 abbrev pub invariant-loop-i : goal.invariant-loop-i
-invariant-loop-i l = Known l.asked l.i
+invariant-loop-i g l = Known l.asked l.i

@@ -1,0 +1,224 @@
+// A recording that is being read.
+ghost use Rattle.std.specs.Prelude.{◌≡◌, ◌≤◌, ◌-◌, length};
+ghost use Rattle.reading.specs.Account.{Right};
+
+use crate::{Account, Failure, Found, Mode, Source, skips};
+use frames::close::Closed;
+use frames::scanner::Fed;
+use frames::{close, scanner};
+use printing::Terminal;
+
+// What a step comes to.
+#[derive(Clone, Copy)]
+pub enum Step {
+    // A frame, which the recording lends out until the next step.
+    Frame(Found),
+    // A new piece.
+    Piece,
+    // The recording is at its end.
+    End,
+}
+
+// Where the bytes come from, and what that is called; the bytes held, the piece, the last frame that was found and its length;
+// and the account of all of these, which is right.
+#[derive(Drop)]
+pub struct Recording<'a> {
+    source: Source,
+    name: &'a [u8],
+    terminal: Terminal,
+    held: [u8; 1029],
+    piece: [u8; 65536],
+    frame: [u8; 1029],
+    length: usize,
+    account: Account,
+    ghost right: { Right account },
+}
+
+// What stood in a recording before a step: the bytes held, and the account.
+#[derive(Clone, Copy)]
+pub struct Before {
+    held: [u8; 1029],
+    account: Account,
+}
+
+impl<'a> Recording<'a> {
+    ghost use Rattle.std.specs.Prelude.{◌≡◌, ◌+◌, ◌%◌, ◌^◌};
+    ghost use Rattle.reading.specs.Account.{AllTaken, RightTaken, RightClosed, RightRead, RightStep};
+    ghost use Rattle.reading.specs.Number.{frame_in};
+    ghost use Rattle.reading.specs.Skips.{byte_in};
+
+    // Nothing is read at first.
+    pub fn new(source: Source, name: &'a [u8], terminal: Terminal, mode: Mode) -> Recording<'a>
+        ensures { AllTaken result.account }
+    {
+        Recording {
+            source,
+            name,
+            terminal,
+            held: [0; 1029],
+            piece: [0; 65536],
+            frame: [0; 1029],
+            length: 0,
+            account: Account::start(mode),
+        }
+    }
+
+    pub fn account(&self) -> Account
+        ensures { result ≡ self.now.account }
+    {
+        self.account
+    }
+
+    pub fn name(&self) -> &'a [u8]
+        ensures { result.now ≡ self.now.name.now }
+    {
+        self.name
+    }
+
+    // The frame that was found last.
+    pub fn frame(&self) -> &[u8]
+        ensures { result.now ≡ frame_in self.now.frame self.now.length }
+    {
+        crate::frame_of(&self.frame, self.length)
+    }
+
+    // What a step is about to change, for `skipped_since` and `byte_since`.
+    pub fn before(&self) -> Before
+        ensures { result ≡ record { held = self.now.held; account = self.now.account } }
+    {
+        Before {
+            held: self.held,
+            account: self.account,
+        }
+    }
+
+    // How many bytes were skipped since.
+    pub fn skipped_since(&self, before: &Before) -> u64
+        ensures { (before.now.account.skipped + result) % 2 ^ 64 ≡ self.now.account.skipped }
+    {
+        self.account.skipped.wrapping_sub(before.account.skipped)
+    }
+
+    // The byte at place i of those, which are the first ones of the bytes held then and of the rest of the piece.
+    pub fn byte_since(&self, before: &Before, i: usize) -> u8
+        ensures { result ≡ byte_in before.now.held before.now.account.held self.now.piece before.now.account.from i }
+    {
+        let from = before.account;
+        skips::byte_at(&before.held, from.held, &self.piece, from.from, i)
+    }
+
+    // Hands out the next frame of the piece, or reads the next piece where there is none.
+    pub fn next(&mut self) -> Result<Step, Failure>
+        ensures { RightStep result self.new.account }
+    {
+        if let Some(found) = self.take()? {
+            return Ok(Step::Frame(found));
+        }
+        match self.refill()? {
+            Some(_) => Ok(Step::Piece),
+            None => Ok(Step::End),
+        }
+    }
+
+    // Hands out the next frame of the piece, or takes all of it.
+    pub fn take(&mut self) -> Result<Option<Found>, Failure>
+        ensures { RightTaken result self.new.account }
+    {
+        let a = self.account;
+        let Recording {
+            held,
+            piece,
+            frame,
+            ..
+        } = self;
+        match scanner::feed(held, a.scanner(), part(piece, a.from, a.to), frame) {
+            Fed::Frame {
+                length,
+                taken,
+                skipped,
+                place: _,
+                kind,
+                scanner,
+            } => {
+                let (found, account) = a.framed(length, taken, skipped, scanner.count, kind);
+                self.length = length;
+                self.account = account;
+                Ok(Some(found))
+            }
+            Fed::More {
+                taken: _,
+                skipped,
+                scanner,
+            } => {
+                self.account = a.passed(skipped, scanner.count);
+                Ok(None)
+            }
+            _ => Err(Failure::Unread),
+        }
+    }
+
+    // At the end of the recording: hands out the next frame among the bytes held, or gives all of them up.
+    pub fn close(&mut self) -> Result<Option<Found>, Failure>
+        ensures { RightClosed result self.new.account }
+    {
+        let a = self.account;
+        match close::close(&mut self.held, a.scanner(), &mut self.frame) {
+            Closed::Frame {
+                length,
+                skipped,
+                place: _,
+                kind,
+                scanner,
+            } => {
+                let (found, account) = a.framed(length, 0, skipped, scanner.count, kind);
+                self.length = length;
+                self.account = account;
+                Ok(Some(found))
+            }
+            Closed::Done {
+                skipped,
+                scanner: _,
+            } => {
+                self.account = a.emptied(skipped);
+                Ok(None)
+            }
+            _ => Err(Failure::Unread),
+        }
+    }
+
+    // Reads the next piece, once the one before is taken, and answers how many bytes it has; none at the end. Where it
+    // cannot be read, that is said.
+    pub fn refill(&mut self) -> Result<Option<usize>, Failure>
+        ensures { AllTaken self.old.account → RightRead result self.new.account }
+    {
+        match self.source.read(&mut self.piece) {
+            Ok(0) => Ok(None),
+            Ok(n) => {
+                self.account = self.account.grown(n);
+                Ok(Some(n))
+            }
+            Err(error) => {
+                self.terminal.fail(self.name, &error);
+                Err(Failure::Unread)
+            }
+        }
+    }
+
+    // Says so if nothing was there to read.
+    pub fn say_if_empty(&self)
+        ensures { result ≡ tt }
+    {
+        if self.account.bytes == 0 {
+            self.terminal.say_bytes(self.name);
+            self.terminal.say(": is empty\n");
+        }
+    }
+}
+
+// The bytes from one place to another.
+fn part(bytes: &[u8], from: usize, to: usize) -> &[u8]
+    requires { (from ≤ to) × (to ≤ length bytes.now) }
+    ensures { length result.now ≡ to - from }
+{
+    &bytes[from..to]
+}
