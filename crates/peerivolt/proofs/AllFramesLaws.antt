@@ -1,16 +1,15 @@
 -- The call that lists all frames, in numbers: what it returns in each case, that its statement allows one answer, and that a refusal writes nothing but the extra area. Assumes nothing.
-use mathlib.Core.Path.{◌≡◌, ap, ◌∙◌}
-use mathlib.Core.Bool.{Bool, cond}
-use mathlib.Core.List.{List, [], ◌∷◌}
+use mathlib.Core.Path.{◌≡◌, ◌∙◌}
+use mathlib.Core.Bool.{Bool}
+use mathlib.Core.List.{List}
 use Prim.Native.Nat.{ℕ}
 use lib.ListN.{length}
 use lib.Dec.{eqb}
 use borrow.Author.Tests.{eq-eqb, ne_eqb}
-use Rattle.bits.specs.Told.{Told, Accepted}
+use Rattle.bits.specs.Told.{Told}
 use Rattle.bits.specs.Outcome.{Outcome, outcome}
 use Rattle.frames.specs.Modes.{framing_of}
-use Rattle.frames.specs.Call.{Scanner}
-use Rattle.batch.specs.Batch.{Areas, AllAnswer, Frames, feed_all_of}
+use Rattle.batch.specs.Batch.{Areas, AllAnswer, feed_all_of}
 use Rattle.batch.proofs.CallLaws.{feed_all_keeps}
 use Rattle.peerivolt.specs.Extra.{numbers, in_numbers, returned}
 use Rattle.peerivolt.specs.Scanner.{scanner_of}
@@ -18,11 +17,6 @@ use Rattle.peerivolt.specs.AllFrames.{all_values, feeds_all}
 use Rattle.peerivolt.proofs.AnswerLaws.{sized, not_sized, either}
 use Rattle.peerivolt.proofs.OnlyLaws.{OneAnswer, only_returned}
 use Rattle.peerivolt.proofs.KeepLaws.{RefusedKeeps, sized_keeps, answered_keeps}
-
--- whether the lists are full, in its number
-pub full_told : (n t s : ℕ) (f : Bool) (m i : ℕ) (x : Scanner) → m ≡ cond f 1 0
-    → numbers 0 (n ∷ t ∷ s ∷ x.count ∷ m ∷ i ∷ x.taken ∷ 0 ∷ []) ≡ in_numbers all_values (Accepted (Frames n t s f i x))
-full_told n t s f m i x e = ap (λ m. numbers 0 (n ∷ t ∷ s ∷ x.count ∷ m ∷ i ∷ x.taken ∷ 0 ∷ [])) e
 
 module _ (a : Areas) (w : Outcome AllAnswer Areas) (e : List ℕ) where
   pub no_extra : (length e ≡ 8 → ⊥) → returned 9 e a ≡ feeds_all a w e

@@ -8,14 +8,18 @@ use lib.Dec.{eqb}
 use borrow.Author.Tests.{eq-eqb, ne_eqb}
 use Rattle.bits.specs.Told.{Told, Accepted}
 use Rattle.bits.specs.Outcome.{Outcome, outcome}
+use Rattle.bits.specs.Refusals.{told}
+use Rattle.bits.specs.declared.refusal.Refusal.{Refusal}
+use Rattle.std.specs.Prelude.{Result, Ok, Err}
 use Rattle.frames.specs.Rtcm.{Kind}
-use Rattle.frames.specs.Call.{Scanner, FedAnswer, Frame, FedOutcome}
+use Rattle.frames.specs.Call.{FedAnswer, FedOutcome}
 use Rattle.peerivolt.specs.Extra.{Numbers, numbers, in_numbers, returned, answered, reads}
-use Rattle.peerivolt.specs.Scanner.{kind_number, fed_values, feeds}
+use Rattle.peerivolt.specs.Scanner.{fed_values, feeds}
 
--- an answer x of the code that is known to be y tells what y tells
-pub tells : {E A : Type 0} (values : A → List ℕ) (told : E → Told A) {x y : E} → x ≡ y → in_numbers values (told y) ≡ in_numbers values (told x)
-tells values told e = ap (λ x. in_numbers values (told x)) (sym e)
+-- the numbers of an answer are those of what it tells
+pub as_told : {T A : Type 0} (values : A → List ℕ) (value : T → A) (r : Result T Refusal) → in_numbers (λ v. values (value v)) (told (λ v. v) r) ≡ in_numbers values (told value r)
+as_told values value (Ok v) = refl
+as_told values value (Err d) = refl
 
 -- ---- any call
 
@@ -49,11 +53,6 @@ pub found : {A : Type 0} (values : A → List ℕ) {a d : A} (e : List ℕ) {r :
 found values e h q o = read values e h q (ap Accepted o)
 
 -- ---- a call of the scanner
-
--- a frame's kind in its number
-pub kind_told : (l t s i n : ℕ) (k : Kind) (x : Scanner) → n ≡ kind_number k
-    → numbers 0 (1 ∷ t ∷ s ∷ x.count ∷ l ∷ i ∷ x.taken ∷ n ∷ []) ≡ in_numbers fed_values (Accepted (Frame l t s i k x))
-kind_told l t s i n k x e = ap (λ n. numbers 0 (1 ∷ t ∷ s ∷ x.count ∷ l ∷ i ∷ x.taken ∷ n ∷ [])) e
 
 pub either : {A : Type 0} (b : Bool) {x y : A} → x ≡ y → x ≡ cond b y x
 either true e = e

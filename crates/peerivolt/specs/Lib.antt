@@ -1,5 +1,4 @@
 pub mod Extra
-pub mod Answers
 pub mod Fields
 pub mod Frames
 pub mod Damage

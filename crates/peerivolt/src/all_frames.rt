@@ -1,17 +1,16 @@
 // All frames of a piece in one call.
-ghost use Rattle.std.specs.Prelude.{◌≡◌, cond};
+ghost use Rattle.std.specs.Prelude.{◌≡◌, cond, [], ◌∷◌};
 ghost use Rattle.frames.specs.Modes.{framing_of};
 ghost use Rattle.batch.specs.Batch.{areas, feed_all_of};
-ghost use Rattle.batch.specs.Answers.{told_all};
-ghost use Rattle.peerivolt.specs.Extra.{returned, in_numbers};
-ghost use Rattle.peerivolt.specs.Answers.{replied};
+ghost use Rattle.batch.specs.Answers.{known_listed};
+ghost use Rattle.peerivolt.specs.Extra.{returned};
 ghost use Rattle.peerivolt.specs.Scanner.{scanner_of};
 ghost use Rattle.peerivolt.specs.AllFrames.{all_values, feeds_all};
 
 use crate::extra;
-use crate::extra::Reply;
+use crate::extra::Values;
 use batch::feed;
-use batch::feed::FedAll;
+use batch::feed::Listed;
 use frames::scanner::Scanner;
 
 // Feeds a piece to the scanner whose held bytes are the first `count` of the area `held`, which took `taken` bytes since
@@ -44,44 +43,24 @@ pub extern "C" fn pv_feed_all(
     }
     let scanner = Scanner { count, taken, mode };
     let answer = feed::feed_all(held, scanner, piece, seam, starts, lengths, kinds);
-    extra::fill(all_fed(answer), extra)
+    extra::tell(answer, extra)
 }
 
-fn all_fed(answer: FedAll) -> Reply
-    ensures { replied result ≡ in_numbers all_values (told_all answer) }
-{
-    match answer {
-        FedAll::Frames {
-            count,
-            taken,
-            skipped,
-            full,
-            place,
-            scanner,
-        } => Reply {
-            number: 0,
-            extra: [
-                count as u64,
-                taken as u64,
-                skipped as u64,
-                scanner.count as u64,
-                one_if(full),
-                place,
-                scanner.taken,
-                0,
-            ],
-        },
-        FedAll::Size => extra::bare(9),
-        FedAll::State => extra::bare(11),
-        FedAll::Room(n) => extra::with_one(8, n as u64),
-    }
-}
+// How many frames, the bytes taken and skipped, the held count now, whether the lists are full, the stream place of the
+// first byte held before the call, and the bytes taken since fresh, now.
+impl Values for Listed {
+    ghost listed = { λ l. all_values (known_listed l) };
 
-fn one_if(full: bool) -> u64
-    ensures { result ≡ cond full 1 0 }
-{
-    if full {
-        return 1;
+    fn values(self) -> [u64; 8] {
+        [
+            self.count as u64,
+            self.taken as u64,
+            self.skipped as u64,
+            self.scanner.count as u64,
+            self.full as u64,
+            self.place,
+            self.scanner.taken,
+            0,
+        ]
     }
-    0
 }

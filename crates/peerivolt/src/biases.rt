@@ -1,19 +1,17 @@
 // Bias blocks, and biases in metres.
-ghost use Rattle.std.specs.Prelude.{◌≡◌};
+ghost use Rattle.std.specs.Prelude.{◌≡◌, [], ◌∷◌};
 ghost use Rattle.messages.specs.Read1059.{read1059};
 ghost use Rattle.messages.specs.Read1230.{read1230};
 ghost use Rattle.messages.specs.Write1059.{write1059};
 ghost use Rattle.messages.specs.Write1230.{write1230};
 ghost use Rattle.messages.specs.Metres.{metres1059, metres1230};
-ghost use Rattle.messages.specs.Answers.{told_read, told_block};
-ghost use Rattle.peerivolt.specs.Extra.{returned, answered, in_numbers};
-ghost use Rattle.peerivolt.specs.Answers.{replied};
+ghost use Rattle.peerivolt.specs.Extra.{returned, answered};
 ghost use Rattle.peerivolt.specs.Fields.{end_values};
 ghost use Rattle.peerivolt.specs.Biases.{counted_values};
 
 use crate::extra;
-use crate::extra::Reply;
-use messages::answer::{BlockRead, BlockWritten};
+use crate::extra::Values;
+use messages::answer::Records;
 use messages::bias::{Bias1059, Bias1230};
 use messages::{read1059, read1230, write1059, write1230};
 
@@ -32,10 +30,7 @@ pub extern "C" fn pv_1059_read(
     if extra.len() != 8 {
         return 9;
     }
-    extra::fill(
-        block_read(read1059::read(bytes, start, satellites, signals, biases)),
-        extra,
-    )
+    extra::tell(read1059::read(bytes, start, satellites, signals, biases), extra)
 }
 
 // Writes the block of message 1059 from bit `start` on, by an edition of its signals. Extra: the end bit.
@@ -54,10 +49,7 @@ pub extern "C" fn pv_1059_write(
     if extra.len() != 8 {
         return 9;
     }
-    extra::fill(
-        block_written(write1059::write(edition, bytes, start, satellites, signals, biases)),
-        extra,
-    )
+    extra::tell(write1059::write(edition, bytes, start, satellites, signals, biases), extra)
 }
 
 // Reads the block of message 1230 from bit `start` on into the lists. Extra: how many records, and the end bit.
@@ -74,10 +66,7 @@ pub extern "C" fn pv_1230_read(
     if extra.len() != 8 {
         return 9;
     }
-    extra::fill(
-        block_read(read1230::read(bytes, start, signals, biases)),
-        extra,
-    )
+    extra::tell(read1230::read(bytes, start, signals, biases), extra)
 }
 
 // Writes the block of message 1230 from bit `start` on. Extra: the end bit.
@@ -94,10 +83,7 @@ pub extern "C" fn pv_1230_write(
     if extra.len() != 8 {
         return 9;
     }
-    extra::fill(
-        block_written(write1230::write(bytes, start, signals, biases)),
-        extra,
-    )
+    extra::tell(write1230::write(bytes, start, signals, biases), extra)
 }
 
 // A raw bias of message 1059 in metres.
@@ -116,29 +102,11 @@ pub extern "C" fn pv_1230_metres(raw: i16) -> f32
     Bias1230(raw).metres()
 }
 
-fn block_read(answer: BlockRead) -> Reply
-    ensures { replied result ≡ in_numbers counted_values (told_read answer) }
-{
-    match answer {
-        BlockRead::Records { count, end } => extra::with_two(0, count as u64, end as u64),
-        BlockRead::Size => extra::bare(9),
-        BlockRead::Short(place, missing) => extra::with_two(1, place as u64, missing as u64),
-        BlockRead::Room(records) => extra::with_one(8, records as u64),
-    }
-}
+// How many records were read, and the bit behind the block.
+impl Values for Records {
+    ghost listed = { λ r. r.count ∷ r.end ∷ [] };
 
-pub(crate) fn block_written(answer: BlockWritten) -> Reply
-    ensures { replied result ≡ in_numbers end_values (told_block answer) }
-{
-    match answer {
-        BlockWritten::End(q) => extra::with_one(0, q as u64),
-        BlockWritten::Size => extra::bare(9),
-        BlockWritten::Satellite(index) => extra::with_one(5, index as u64),
-        BlockWritten::Signal(index) => extra::with_one(4, index as u64),
-        BlockWritten::Range(index) => extra::with_one(3, index as u64),
-        BlockWritten::TooMany(which) => extra::with_one(6, which as u64),
-        BlockWritten::Duplicate(index) => extra::with_one(7, index as u64),
-        BlockWritten::Room(bits) => extra::with_one(8, bits as u64),
-        BlockWritten::Kind => extra::bare(13),
+    fn values(self) -> [u64; 8] {
+        [self.count as u64, self.end as u64, 0, 0, 0, 0, 0, 0]
     }
 }

@@ -1,17 +1,14 @@
 // Settings blocks.
-ghost use Rattle.std.specs.Prelude.{◌≡◌};
+ghost use Rattle.std.specs.Prelude.{◌≡◌, [], ◌∷◌};
 ghost use Rattle.settings.specs.Read.{read_settings};
 ghost use Rattle.settings.specs.Write.{write_settings};
-ghost use Rattle.settings.specs.Answers.{told_read, told_written};
-ghost use Rattle.peerivolt.specs.Extra.{returned, answered, in_numbers};
-ghost use Rattle.peerivolt.specs.Answers.{replied};
+ghost use Rattle.peerivolt.specs.Extra.{returned, answered};
 ghost use Rattle.peerivolt.specs.Fields.{end_values};
 ghost use Rattle.peerivolt.specs.Settings.{found_values, reads_settings};
 
 use crate::extra;
-use crate::extra::Reply;
-use settings::read::BlockRead;
-use settings::write::Written;
+use crate::extra::Values;
+use settings::read::Settings;
 use settings::{read, write};
 
 // Reads the settings block of this index, for a reader of edition 1 or 2, into lists of 64 places each. Extra: how many
@@ -36,10 +33,7 @@ pub extern "C" fn pv_settings_read(
     if priorities.len() != 64 {
         return 9;
     }
-    extra::fill(
-        block_read(read::read(block, reader, index, numbers, priorities)),
-        extra,
-    )
+    extra::tell(read::read(block, reader, index, numbers, priorities), extra)
 }
 
 // Writes the numbers, and in edition 2 their priorities, as the settings block of this index. Extra: its 512 bytes.
@@ -57,36 +51,15 @@ pub extern "C" fn pv_settings_write(
     if extra.len() != 8 {
         return 9;
     }
-    extra::fill(
-        block_written(write::write(edition, index, numbers, priorities, out)),
-        extra,
-    )
+    let written = write::write(edition, index, numbers, priorities, out);
+    extra::tell(written.and(Ok(512)), extra)
 }
 
-fn block_read(answer: BlockRead) -> Reply
-    ensures { replied result ≡ in_numbers found_values (told_read answer) }
-{
-    match answer {
-        BlockRead::Settings { count, edition } => {
-            extra::with_two(0, count as u64, edition as u64)
-        }
-        BlockRead::Size => extra::bare(9),
-        BlockRead::BadCheck { sent, computed } => {
-            extra::with_two(14, sent as u64, computed as u64)
-        }
-        BlockRead::Kind => extra::bare(13),
-        BlockRead::Range(k) => extra::with_one(3, k as u64),
-    }
-}
+// How many numbers were read, and the block's edition.
+impl Values for Settings {
+    ghost listed = { λ s. s.count ∷ s.edition ∷ [] };
 
-fn block_written(answer: Written) -> Reply
-    ensures { replied result ≡ in_numbers end_values (told_written answer) }
-{
-    match answer {
-        Written::Block => extra::with_one(0, 512),
-        Written::Kind => extra::bare(13),
-        Written::Size => extra::bare(9),
-        Written::Range(k) => extra::with_one(3, k as u64),
-        Written::Room => extra::with_one(8, 512),
+    fn values(self) -> [u64; 8] {
+        [self.count as u64, self.edition as u64, 0, 0, 0, 0, 0, 0]
     }
 }

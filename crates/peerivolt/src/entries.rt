@@ -1,14 +1,12 @@
 // The bias cache.
-ghost use Rattle.std.specs.Prelude.{◌≡◌};
+ghost use Rattle.std.specs.Prelude.{◌≡◌, [], ◌∷◌};
 ghost use Rattle.cache.specs.Cache.{key, value, Store, Remove, Lookup, step};
-ghost use Rattle.cache.specs.Answers.{told_stored, told_removed, told_found};
-ghost use Rattle.peerivolt.specs.Extra.{returned, answered, in_numbers, reads};
-ghost use Rattle.peerivolt.specs.Answers.{replied};
+ghost use Rattle.peerivolt.specs.Extra.{returned, answered, reads};
 ghost use Rattle.peerivolt.specs.Cache.{in_long, value_values};
 
 use crate::extra;
-use crate::extra::Reply;
-use cache::cache::{Found, Key, Removed, Stored};
+use crate::extra::Values;
+use cache::cache::{Key, Value};
 
 // Stores a bias, in 32 bits of two's complement, with its IOD under the whole key.
 #[unsafe(no_mangle)]
@@ -33,7 +31,7 @@ pub extern "C" fn pv_cache_store(
         satellite,
         signal,
     };
-    extra::fill(stored(cache::cache::store(entries, k, iod, bias)), extra)
+    extra::tell(cache::cache::store(entries, k, iod, bias), extra)
 }
 
 // Frees the entry with the whole key.
@@ -57,7 +55,7 @@ pub extern "C" fn pv_cache_remove(
         satellite,
         signal,
     };
-    extra::fill(removed(cache::cache::remove(entries, k)), extra)
+    extra::tell(cache::cache::remove(entries, k), extra)
 }
 
 // Looks the whole key up. Extra: the IOD, and the bias.
@@ -81,54 +79,32 @@ pub extern "C" fn pv_cache_lookup(
         satellite,
         signal,
     };
-    extra::fill(found(cache::cache::lookup(entries, k)), extra)
+    extra::tell(cache::cache::lookup(entries, k), extra)
 }
 
-fn stored(answer: Stored) -> Reply
-    ensures { replied result ≡ in_numbers value_values (told_stored answer) }
-{
-    match answer {
-        Stored::Done => extra::bare(0),
-        Stored::Size => extra::bare(9),
-        Stored::Range => extra::with_one(3, 0),
-        Stored::Full => extra::bare(15),
+// Of an entry that was stored or removed nothing is told.
+impl Values for () {
+    ghost listed = { λ _. [] };
+
+    fn values(self) -> [u64; 8] {
+        [0; 8]
     }
 }
 
-fn removed(answer: Removed) -> Reply
-    ensures { replied result ≡ in_numbers value_values (told_removed answer) }
-{
-    match answer {
-        Removed::Done => extra::bare(0),
-        Removed::Size => extra::bare(9),
-        Removed::Range => extra::with_one(3, 0),
-        Removed::Absent => extra::bare(16),
+// The IOD, and the bias, whose 32 bits of two's complement are told in 64.
+impl Values for Value {
+    ghost listed = { λ v. v.iod ∷ in_long v.bias ∷ [] };
+
+    fn values(self) -> [u64; 8] {
+        [self.iod as u64, in_long(self.bias), 0, 0, 0, 0, 0, 0]
     }
 }
 
-fn found(answer: Found) -> Reply
-    ensures { replied result ≡ in_numbers value_values (told_found answer) }
+fn in_long(bias: u32) -> u64
+    ensures { result ≡ in_long bias }
 {
-    match answer {
-        Found::Value(iod, bias) => extra::with_two(0, wide(iod), in_long(bias)),
-        Found::Size => extra::bare(9),
-        Found::Range => extra::with_one(3, 0),
-        Found::Absent => extra::bare(16),
+    if bias < 0x8000_0000 {
+        return bias as u64;
     }
-}
-
-// 32 bits of two's complement in 64.
-fn in_long(b: u32) -> u64
-    ensures { result ≡ in_long b }
-{
-    if b < 0x8000_0000 {
-        return b as u64;
-    }
-    b as u64 + 0xFFFF_FFFF_0000_0000
-}
-
-fn wide(x: u32) -> u64
-    ensures { result ≡ x }
-{
-    x as u64
+    bias as u64 + 0xFFFF_FFFF_0000_0000
 }

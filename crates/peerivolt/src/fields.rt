@@ -1,16 +1,14 @@
 // Bit fields and the checksum.
-ghost use Rattle.std.specs.Prelude.{◌≡◌};
+ghost use Rattle.std.specs.Prelude.{◌≡◌, [], ◌∷◌};
 ghost use Rattle.bits.specs.Crc.{crc};
+ghost use Rattle.bits.specs.Signed.{twos_bits};
 ghost use Rattle.bits.specs.Field.{read_unsigned, read_twos, read_signmag, write_unsigned, write_twos, write_signmag};
-ghost use Rattle.bits.specs.Answers.{told_unsigned, told_signed, told_written};
-ghost use Rattle.peerivolt.specs.Extra.{returned, answered, in_numbers, reads};
-ghost use Rattle.peerivolt.specs.Answers.{replied};
+ghost use Rattle.peerivolt.specs.Extra.{returned, answered, reads};
 ghost use Rattle.peerivolt.specs.Fields.{reading_values, signed_values, end_values};
 
 use crate::extra;
-use crate::extra::Reply;
+use crate::extra::Values;
 use bits::field;
-use bits::field::{Signed, Unsigned, Written};
 
 // The checksum of the bytes.
 #[unsafe(no_mangle)]
@@ -33,10 +31,7 @@ pub extern "C" fn pv_field_read_unsigned(
     if extra.len() != 8 {
         return 9;
     }
-    extra::fill(
-        unsigned_read(field::read_unsigned(bytes, start, width)),
-        extra,
-    )
+    extra::tell(field::read_unsigned(bytes, start, width), extra)
 }
 
 // Reads a field in two's complement. Extra: the value.
@@ -52,7 +47,7 @@ pub extern "C" fn pv_field_read_twos(
     if extra.len() != 8 {
         return 9;
     }
-    extra::fill(signed_read(field::read_twos(bytes, start, width)), extra)
+    extra::tell(field::read_twos(bytes, start, width), extra)
 }
 
 // Reads a field as sign and magnitude. Extra: the value.
@@ -68,7 +63,7 @@ pub extern "C" fn pv_field_read_signmag(
     if extra.len() != 8 {
         return 9;
     }
-    extra::fill(signed_read(field::read_signmag(bytes, start, width)), extra)
+    extra::tell(field::read_signmag(bytes, start, width), extra)
 }
 
 // Writes the value to the field of `width` bits from bit `start` on. Extra: the end bit.
@@ -85,10 +80,7 @@ pub extern "C" fn pv_field_write_unsigned(
     if extra.len() != 8 {
         return 9;
     }
-    extra::fill(
-        written(field::write_unsigned(bytes, start, width, value)),
-        extra,
-    )
+    extra::tell(field::write_unsigned(bytes, start, width, value), extra)
 }
 
 // Writes a field in two's complement. Extra: the end bit.
@@ -105,10 +97,7 @@ pub extern "C" fn pv_field_write_twos(
     if extra.len() != 8 {
         return 9;
     }
-    extra::fill(
-        written(field::write_twos(bytes, start, width, value)),
-        extra,
-    )
+    extra::tell(field::write_twos(bytes, start, width, value), extra)
 }
 
 // Writes a field as sign and magnitude. Extra: the end bit.
@@ -125,42 +114,32 @@ pub extern "C" fn pv_field_write_signmag(
     if extra.len() != 8 {
         return 9;
     }
-    extra::fill(
-        written(field::write_signmag(bytes, start, width, value)),
-        extra,
-    )
+    extra::tell(field::write_signmag(bytes, start, width, value), extra)
 }
 
-fn unsigned_read(read: Unsigned) -> Reply
-    ensures { replied result ≡ in_numbers reading_values (told_unsigned read) }
-{
-    match read {
-        Unsigned::Value(v, _) => extra::with_one(0, v),
-        Unsigned::Size => extra::bare(9),
-        Unsigned::Width => extra::bare(2),
-        Unsigned::Short(place, missing) => extra::with_two(1, place as u64, missing as u64),
+// An unsigned number that was read, and the bit behind it, which is not told.
+impl Values for (u64, usize) {
+    ghost listed = { λ r. r.0 ∷ [] };
+
+    fn values(self) -> [u64; 8] {
+        [self.0, 0, 0, 0, 0, 0, 0, 0]
     }
 }
 
-fn signed_read(read: Signed) -> Reply
-    ensures { replied result ≡ in_numbers signed_values (told_signed read) }
-{
-    match read {
-        Signed::Value(z, _) => extra::with_one(0, extra::in_64_bits(z)),
-        Signed::Size => extra::bare(9),
-        Signed::Width => extra::bare(2),
-        Signed::Short(place, missing) => extra::with_two(1, place as u64, missing as u64),
+// The same of a signed one, in 64 bits of two's complement.
+impl Values for (i64, usize) {
+    ghost listed = { λ r. twos_bits 64 r.0 ∷ [] };
+
+    fn values(self) -> [u64; 8] {
+        [self.0.cast_unsigned(), 0, 0, 0, 0, 0, 0, 0]
     }
 }
 
-fn written(answer: Written) -> Reply
-    ensures { replied result ≡ in_numbers end_values (told_written answer) }
-{
-    match answer {
-        Written::End(q) => extra::with_one(0, q as u64),
-        Written::Size => extra::bare(9),
-        Written::Width => extra::bare(2),
-        Written::Range => extra::with_one(3, 0),
-        Written::Room(width) => extra::with_one(8, width as u64),
+// The bit behind what was written, or the length of a frame.
+impl Values for usize {
+    ghost listed = { λ q. q ∷ [] };
+
+    fn values(self) -> [u64; 8] {
+        [self as u64, 0, 0, 0, 0, 0, 0, 0]
     }
 }

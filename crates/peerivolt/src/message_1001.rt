@@ -2,18 +2,17 @@
 ghost use Rattle.std.specs.Prelude.{◌≡◌};
 ghost use Rattle.bits.specs.Told.{Accepted};
 ghost use Rattle.observations.specs.Lists.{lists};
-ghost use Rattle.observations.specs.Read1001.{read1001};
+ghost use Rattle.observations.specs.Read1001.{seen, read1001};
 ghost use Rattle.observations.specs.Write1001.{write1001};
 ghost use Rattle.observations.specs.Measured.{pseudorange_of, phase_of, lock_of, IsNumber};
-ghost use Rattle.observations.specs.Answers.{told_read, told_written};
-ghost use Rattle.peerivolt.specs.Extra.{returned, answered, reads, in_numbers};
-ghost use Rattle.peerivolt.specs.Answers.{replied};
+ghost use Rattle.peerivolt.specs.Extra.{returned, answered, reads, spread};
 ghost use Rattle.peerivolt.specs.Fields.{end_values};
 ghost use Rattle.peerivolt.specs.Message1001.{seen_values, measured_values, header};
 
 use crate::extra;
-use crate::extra::Reply;
-use observations::answer::{Header, MessageRead, MessageWritten};
+use crate::extra::Values;
+use observations::answer::{Header, Message};
+use observations::measured::Measure;
 use observations::measured::Measured;
 use observations::{measured, read, write};
 
@@ -34,10 +33,7 @@ pub extern "C" fn pv_1001_read(
     if extra.len() != 8 {
         return 9;
     }
-    extra::fill(
-        message_read(read::read(bytes, satellites, codes, pseudoranges, phases, locks)),
-        extra,
-    )
+    extra::tell(read::read(bytes, satellites, codes, pseudoranges, phases, locks), extra)
 }
 
 // Writes message 1001. Extra: the end bit.
@@ -68,18 +64,7 @@ pub extern "C" fn pv_1001_write(
         smoothing,
         interval,
     };
-    extra::fill(
-        message_written(write::write(
-            bytes,
-            header,
-            satellites,
-            codes,
-            pseudoranges,
-            phases,
-            locks,
-        )),
-        extra,
-    )
+    extra::tell(write::write( bytes, header, satellites, codes, pseudoranges, phases, locks, ), extra)
 }
 
 // What a raw pseudorange measures. Extra: 0 absent or 2 metres, and the 64 bits of the double.
@@ -90,7 +75,8 @@ pub extern "C" fn pv_1001_pseudorange(raw: u32, extra: &mut [u64]) -> u32
     if extra.len() != 8 {
         return 9;
     }
-    extra::fill(measure(measured::pseudorange(raw)), extra)
+    extra.copy_from_slice(&numbers_of(measured::pseudorange(raw)));
+    0
 }
 
 // What a raw phase range measures. Extra: 0 absent or 2 metres, and the 64 bits of the double.
@@ -101,7 +87,8 @@ pub extern "C" fn pv_1001_phase(raw: i32, extra: &mut [u64]) -> u32
     if extra.len() != 8 {
         return 9;
     }
-    extra::fill(measure(measured::phase(raw)), extra)
+    extra.copy_from_slice(&numbers_of(measured::phase(raw)));
+    0
 }
 
 // What a raw lock time indicator measures. Extra: 1 a count, and the count.
@@ -112,53 +99,38 @@ pub extern "C" fn pv_1001_lock(raw: u32, extra: &mut [u64]) -> u32
     if extra.len() != 8 {
         return 9;
     }
-    extra::fill(measure(measured::lock(raw)), extra)
+    extra.copy_from_slice(&numbers_of(measured::lock(raw)));
+    0
 }
 
-fn message_read(answer: MessageRead) -> Reply
-    ensures { replied result ≡ in_numbers seen_values (told_read answer) }
-{
-    match answer {
-        MessageRead::Observations { header, count, end } => Reply {
-            number: 0,
-            extra: [
-                count as u64,
-                end as u64,
-                header.station as u64,
-                header.epoch as u64,
-                header.synchronous as u64,
-                header.smoothing as u64,
-                header.interval as u64,
-                0,
-            ],
-        },
-        MessageRead::Size => extra::bare(9),
-        MessageRead::Short(place, missing) => extra::with_two(1, place as u64, missing as u64),
-        MessageRead::Kind => extra::bare(13),
-        MessageRead::Room(count) => extra::with_one(8, count as u64),
+// How many observations, the end bit, and the header.
+impl Values for Message {
+    ghost listed = { λ m. seen_values (seen m.header m.count m.end) };
+
+    fn values(self) -> [u64; 8] {
+        let header = self.header;
+        [
+            self.count as u64,
+            self.end as u64,
+            header.station as u64,
+            header.epoch as u64,
+            header.synchronous as u64,
+            header.smoothing as u64,
+            header.interval as u64,
+            0,
+        ]
     }
 }
 
-fn message_written(answer: MessageWritten) -> Reply
-    ensures { replied result ≡ in_numbers end_values (told_written answer) }
+// What a raw number measures: 0 absent, 1 a count or 2 metres, and the count or the 64 bits of the double. It is no `Values`,
+// since it asks that a length is a number.
+fn numbers_of(measure: Option<Measure>) -> [u64; 8]
+    requires { IsNumber measure }
+    ensures { result ≡ spread (measured_values measure) }
 {
-    match answer {
-        MessageWritten::End(q) => extra::with_one(0, q as u64),
-        MessageWritten::Size => extra::bare(9),
-        MessageWritten::Satellite(index) => extra::with_one(5, index as u64),
-        MessageWritten::Range(index) => extra::with_one(3, index as u64),
-        MessageWritten::TooMany(count) => extra::with_one(6, count as u64),
-        MessageWritten::Room(bits) => extra::with_one(8, bits as u64),
-    }
-}
-
-fn measure(answer: Measured) -> Reply
-    requires { IsNumber answer }
-    ensures { replied result ≡ in_numbers measured_values (Accepted answer) }
-{
-    match answer {
-        Measured::Absent => extra::bare(0),
-        Measured::Count(n) => extra::with_two(0, 1, n as u64),
-        Measured::Metres(x) => extra::with_two(0, 2, f64::to_bits(x)),
+    match measure {
+        None => [0; 8],
+        Some(Measure::Count(count)) => [1, count as u64, 0, 0, 0, 0, 0, 0],
+        Some(Measure::Metres(metres)) => [2, f64::to_bits(metres), 0, 0, 0, 0, 0, 0],
     }
 }

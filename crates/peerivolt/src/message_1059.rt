@@ -1,14 +1,13 @@
 // Whole messages 1059.
 ghost use Rattle.std.specs.Prelude.{◌≡◌};
 ghost use Rattle.whole.specs.Messages.{read_message1059, write_message1059};
-ghost use Rattle.whole.specs.Answers.{told_message1059};
-ghost use Rattle.peerivolt.specs.Extra.{returned, answered, in_numbers};
-ghost use Rattle.peerivolt.specs.Answers.{replied};
+ghost use Rattle.whole.specs.Whole.{whole};
+ghost use Rattle.peerivolt.specs.Extra.{returned, answered};
 ghost use Rattle.peerivolt.specs.Fields.{end_values};
 ghost use Rattle.peerivolt.specs.Messages.{header1059, message1059_values};
 
-use crate::extra::Reply;
-use crate::{biases, extra};
+use crate::extra;
+use crate::extra::Values;
 use whole::answer::{Header1059, Message1059};
 use whole::{read1059, write1059};
 
@@ -27,10 +26,7 @@ pub extern "C" fn pv_1059_message_read(
     if extra.len() != 8 {
         return 9;
     }
-    extra::fill(
-        message_read(read1059::read(bytes, satellites, signals, biases)),
-        extra,
-    )
+    extra::tell(read1059::read(bytes, satellites, signals, biases), extra)
 }
 
 // Writes message 1059, by an edition of its signals. Extra: the end bit.
@@ -62,34 +58,24 @@ pub extern "C" fn pv_1059_message_write(
         provider,
         solution,
     };
-    extra::fill(
-        biases::block_written(write1059::write(
-            edition, bytes, header, satellites, signals, biases,
-        )),
-        extra,
-    )
+    extra::tell(write1059::write( edition, bytes, header, satellites, signals, biases, ), extra)
 }
 
-fn message_read(answer: Message1059) -> Reply
-    ensures { replied result ≡ in_numbers message1059_values (told_message1059 answer) }
-{
-    match answer {
-        Message1059::Records { header, count, end } => Reply {
-            number: 0,
-            extra: [
-                count as u64,
-                end as u64,
-                header.epoch as u64,
-                header.interval as u64,
-                header.multiple as u64,
-                header.iod as u64,
-                header.provider as u64,
-                header.solution as u64,
-            ],
-        },
-        Message1059::Size => extra::bare(9),
-        Message1059::Short(place, missing) => extra::with_two(1, place as u64, missing as u64),
-        Message1059::Kind => extra::bare(13),
-        Message1059::Room(records) => extra::with_one(8, records as u64),
+// How many records, the end bit, and the header.
+impl Values for Message1059 {
+    ghost listed = { λ m. message1059_values (whole m.header m.count m.end) };
+
+    fn values(self) -> [u64; 8] {
+        let header = self.header;
+        [
+            self.count as u64,
+            self.end as u64,
+            header.epoch as u64,
+            header.interval as u64,
+            header.multiple as u64,
+            header.iod as u64,
+            header.provider as u64,
+            header.solution as u64,
+        ]
     }
 }

@@ -1,14 +1,13 @@
 // Whole messages 1230.
 ghost use Rattle.std.specs.Prelude.{◌≡◌};
 ghost use Rattle.whole.specs.Messages.{read_message1230, write_message1230};
-ghost use Rattle.whole.specs.Answers.{told_message1230};
-ghost use Rattle.peerivolt.specs.Extra.{returned, answered, in_numbers};
-ghost use Rattle.peerivolt.specs.Answers.{replied};
+ghost use Rattle.whole.specs.Whole.{whole};
+ghost use Rattle.peerivolt.specs.Extra.{returned, answered};
 ghost use Rattle.peerivolt.specs.Fields.{end_values};
 ghost use Rattle.peerivolt.specs.Messages.{header1230, message1230_values};
 
-use crate::extra::Reply;
-use crate::{biases, extra};
+use crate::extra;
+use crate::extra::Values;
 use whole::answer::{Header1230, Message1230};
 use whole::{read1230, write1230};
 
@@ -25,7 +24,7 @@ pub extern "C" fn pv_1230_message_read(
     if extra.len() != 8 {
         return 9;
     }
-    extra::fill(message_read(read1230::read(bytes, signals, biases)), extra)
+    extra::tell(read1230::read(bytes, signals, biases), extra)
 }
 
 // Writes message 1230. Extra: the end bit.
@@ -49,32 +48,24 @@ pub extern "C" fn pv_1230_message_write(
         indicator,
         reserved,
     };
-    extra::fill(
-        biases::block_written(write1230::write(bytes, header, signals, biases)),
-        extra,
-    )
+    extra::tell(write1230::write(bytes, header, signals, biases), extra)
 }
 
-fn message_read(answer: Message1230) -> Reply
-    ensures { replied result ≡ in_numbers message1230_values (told_message1230 answer) }
-{
-    match answer {
-        Message1230::Records { header, count, end } => Reply {
-            number: 0,
-            extra: [
-                count as u64,
-                end as u64,
-                header.station as u64,
-                header.indicator as u64,
-                header.reserved as u64,
-                0,
-                0,
-                0,
-            ],
-        },
-        Message1230::Size => extra::bare(9),
-        Message1230::Short(place, missing) => extra::with_two(1, place as u64, missing as u64),
-        Message1230::Kind => extra::bare(13),
-        Message1230::Room(records) => extra::with_one(8, records as u64),
+// How many records, the end bit, and the header.
+impl Values for Message1230 {
+    ghost listed = { λ m. message1230_values (whole m.header m.count m.end) };
+
+    fn values(self) -> [u64; 8] {
+        let header = self.header;
+        [
+            self.count as u64,
+            self.end as u64,
+            header.station as u64,
+            header.indicator as u64,
+            header.reserved as u64,
+            0,
+            0,
+            0,
+        ]
     }
 }

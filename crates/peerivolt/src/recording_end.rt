@@ -2,13 +2,12 @@
 ghost use Rattle.std.specs.Prelude.{◌≡◌};
 ghost use Rattle.frames.specs.Modes.{framing_of};
 ghost use Rattle.frames.specs.Close.{close_of};
-ghost use Rattle.frames.specs.Answers.{told_closed};
-ghost use Rattle.peerivolt.specs.Extra.{returned, in_numbers};
-ghost use Rattle.peerivolt.specs.Answers.{replied};
+ghost use Rattle.frames.specs.Answers.{known_closed};
+ghost use Rattle.peerivolt.specs.Extra.{returned};
 ghost use Rattle.peerivolt.specs.Scanner.{scanner_of};
 ghost use Rattle.peerivolt.specs.Closing.{closed_values, closes};
 
-use crate::extra::Reply;
+use crate::extra::Values;
 use crate::{extra, scanner};
 use frames::close;
 use frames::close::Closed;
@@ -35,23 +34,23 @@ pub extern "C" fn pv_close(
         return 9;
     }
     let scanner = Scanner { count, taken, mode };
-    extra::fill(closed(close::close(held, scanner, out)), extra)
+    extra::tell(close::close(held, scanner, out), extra)
 }
 
-fn closed(answer: Closed) -> Reply
-    ensures { replied result ≡ in_numbers closed_values (told_closed answer) }
-{
-    match answer {
-        Closed::Done { skipped, scanner } => scanner::no_frame(0, skipped, scanner),
-        Closed::Frame {
-            length,
-            skipped,
-            place,
-            kind,
-            scanner,
-        } => scanner::a_frame(length, 0, skipped, place, kind, scanner),
-        Closed::Size => extra::bare(9),
-        Closed::State => extra::bare(11),
-        Closed::Room(n) => extra::with_one(8, n as u64),
+// 0 for Done or 1 for a frame, and what else is told of it.
+impl Values for Closed {
+    ghost listed = { λ c. closed_values (known_closed c) };
+
+    fn values(self) -> [u64; 8] {
+        match self {
+            Closed::Done { skipped, scanner } => scanner::no_frame(0, skipped, scanner),
+            Closed::Frame {
+                length,
+                skipped,
+                place,
+                kind,
+                scanner,
+            } => scanner::a_frame(length, 0, skipped, place, kind, scanner),
+        }
     }
 }

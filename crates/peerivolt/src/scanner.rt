@@ -1,15 +1,13 @@
 // The scanner.
 ghost use Rattle.std.specs.Prelude.{◌≡◌};
-ghost use Rattle.bits.specs.Told.{Accepted};
 ghost use Rattle.frames.specs.Modes.{framing_of};
 ghost use Rattle.frames.specs.Call.{More, Frame, feed_of};
-ghost use Rattle.frames.specs.Answers.{known, told_kind, told_fed};
-ghost use Rattle.peerivolt.specs.Extra.{returned, in_numbers};
-ghost use Rattle.peerivolt.specs.Answers.{replied};
+ghost use Rattle.frames.specs.Answers.{known, told_kind, known_fed};
+ghost use Rattle.peerivolt.specs.Extra.{returned};
 ghost use Rattle.peerivolt.specs.Scanner.{scanner_of, kind_number, fed_values, feeds};
 
 use crate::extra;
-use crate::extra::Reply;
+use crate::extra::Values;
 use frames::scanner;
 use frames::scanner::{Fed, Kind, Scanner};
 
@@ -35,52 +33,50 @@ pub extern "C" fn pv_feed(
         return 9;
     }
     let scanner = Scanner { count, taken, mode };
-    extra::fill(fed(scanner::feed(held, scanner, piece, out)), extra)
+    extra::tell(scanner::feed(held, scanner, piece, out), extra)
 }
 
-fn fed(answer: Fed) -> Reply
-    ensures { replied result ≡ in_numbers fed_values (told_fed answer) }
-{
-    match answer {
-        Fed::More {
-            taken,
-            skipped,
-            scanner,
-        } => no_frame(taken, skipped, scanner),
-        Fed::Frame {
-            length,
-            taken,
-            skipped,
-            place,
-            kind,
-            scanner,
-        } => a_frame(length, taken, skipped, place, kind, scanner),
-        Fed::Size => extra::bare(9),
-        Fed::State => extra::bare(11),
-        Fed::Room(n) => extra::with_one(8, n as u64),
+// 0 for More or 1 for a frame, and what else is told of it.
+impl Values for Fed {
+    ghost listed = { λ f. fed_values (known_fed f) };
+
+    fn values(self) -> [u64; 8] {
+        match self {
+            Fed::More {
+                taken,
+                skipped,
+                scanner,
+            } => no_frame(taken, skipped, scanner),
+            Fed::Frame {
+                length,
+                taken,
+                skipped,
+                place,
+                kind,
+                scanner,
+            } => a_frame(length, taken, skipped, place, kind, scanner),
+        }
     }
 }
 
-// No frame, after so many bytes taken and skipped.
-pub(crate) fn no_frame(taken: usize, skipped: usize, scanner: Scanner) -> Reply
-    ensures { replied result ≡ in_numbers fed_values (Accepted (More taken skipped (known scanner))) }
+// The numbers of no frame, after so many bytes taken and skipped.
+pub(crate) fn no_frame(taken: usize, skipped: usize, scanner: Scanner) -> [u64; 8]
+    ensures { result ≡ fed_values (More taken skipped (known scanner)) }
 {
-    Reply {
-        number: 0,
-        extra: [
-            0,
-            taken as u64,
-            skipped as u64,
-            scanner.count as u64,
-            0,
-            0,
-            scanner.taken,
-            0,
-        ],
-    }
+    let held = scanner.count as u64;
+    [
+        0,
+        taken as u64,
+        skipped as u64,
+        held,
+        0,
+        0,
+        scanner.taken,
+        0,
+    ]
 }
 
-// A frame of so many bytes at a place, after so many bytes taken and skipped.
+// Those of a frame of so many bytes at a place, after so many bytes taken and skipped.
 pub(crate) fn a_frame(
     length: usize,
     taken: usize,
@@ -88,22 +84,19 @@ pub(crate) fn a_frame(
     place: u64,
     kind: Kind,
     scanner: Scanner,
-) -> Reply
-    ensures { replied result ≡ in_numbers fed_values (Accepted (Frame length taken skipped place (told_kind kind) (known scanner))) }
+) -> [u64; 8]
+    ensures { result ≡ fed_values (Frame length taken skipped place (told_kind kind) (known scanner)) }
 {
-    Reply {
-        number: 0,
-        extra: [
-            1,
-            taken as u64,
-            skipped as u64,
-            scanner.count as u64,
-            length as u64,
-            place,
-            scanner.taken,
-            kind_number(kind),
-        ],
-    }
+    [
+        1,
+        taken as u64,
+        skipped as u64,
+        scanner.count as u64,
+        length as u64,
+        place,
+        scanner.taken,
+        kind_number(kind),
+    ]
 }
 
 fn kind_number(kind: Kind) -> u64

@@ -4,14 +4,14 @@ ghost use Rattle.bits.specs.Told.{Accepted};
 ghost use Rattle.messages.specs.Signals.{sig, table_of, signal_of, number_of};
 ghost use Rattle.messages.specs.SignalOrder.{order};
 ghost use Rattle.messages.specs.Answers.{found_signal, found_number, told_order};
-ghost use Rattle.peerivolt.specs.Extra.{returned, in_numbers, reads};
-ghost use Rattle.peerivolt.specs.Answers.{replied};
+ghost use Rattle.peerivolt.specs.Extra.{returned, reads};
 ghost use Rattle.peerivolt.specs.Signals.{signal_values, number_values, order_values};
 
 use crate::extra;
-use crate::extra::Reply;
+use crate::extra::Values;
 use messages::signals;
-use messages::signals::{NumberFound, Order, SignalFound};
+use messages::signals::Signal;
+use std::cmp::Ordering;
 
 // The signal that a number stands for in a system's table. Extra: 1, band and letter, or 0.
 #[unsafe(no_mangle)]
@@ -21,7 +21,7 @@ pub extern "C" fn pv_signal_of(system: u32, number: u32, extra: &mut [u64]) -> u
     if extra.len() != 8 {
         return 9;
     }
-    extra::fill(signal_found(signals::signal_of(system, number)), extra)
+    extra::tell(Ok(signals::signal_of(system, number)), extra)
 }
 
 // The number of a signal in a system's table. Extra: 1 and the number, or 0.
@@ -32,10 +32,7 @@ pub extern "C" fn pv_number_of(system: u32, band: u32, letter: u32, extra: &mut 
     if extra.len() != 8 {
         return 9;
     }
-    extra::fill(
-        number_found(signals::number_of(system, band, letter)),
-        extra,
-    )
+    extra::tell(Ok(signals::number_of(system, band, letter)), extra)
 }
 
 // How the first signal stands to the second in a system's order. Extra: -1, 0 or 1.
@@ -53,39 +50,43 @@ pub extern "C" fn pv_signal_order(
     if extra.len() != 8 {
         return 9;
     }
-    extra::fill(
-        ordered(signals::compare(system, band1, letter1, band2, letter2)),
-        extra,
-    )
+    extra::tell(Ok(signals::compare(system, band1, letter1, band2, letter2)), extra)
 }
 
-fn signal_found(found: SignalFound) -> Reply
-    ensures { replied result ≡ in_numbers signal_values (Accepted (found_signal found)) }
-{
-    match found {
-        SignalFound::At(band, letter) => Reply {
-            number: 0,
-            extra: [1, band as u64, letter as u64, 0, 0, 0, 0, 0],
-        },
-        SignalFound::None => extra::with_one(0, 0),
+// 1, and the band and the letter of a signal; or 0.
+impl Values for Option<Signal> {
+    ghost listed = { λ s. signal_values (found_signal s) };
+
+    fn values(self) -> [u64; 8] {
+        match self {
+            Some(Signal { band, letter }) => [1, band as u64, letter as u64, 0, 0, 0, 0, 0],
+            None => [0; 8],
+        }
     }
 }
 
-fn number_found(found: NumberFound) -> Reply
-    ensures { replied result ≡ in_numbers number_values (Accepted (found_number found)) }
-{
-    match found {
-        NumberFound::At(number) => extra::with_two(0, 1, number as u64),
-        NumberFound::None => extra::with_one(0, 0),
+// 1, and a number; or 0.
+impl Values for Option<u8> {
+    ghost listed = { λ n. number_values (found_number n) };
+
+    fn values(self) -> [u64; 8] {
+        match self {
+            Some(number) => [1, number as u64, 0, 0, 0, 0, 0, 0],
+            None => [0; 8],
+        }
     }
 }
 
-fn ordered(order: Order) -> Reply
-    ensures { replied result ≡ in_numbers order_values (Accepted (told_order order)) }
-{
-    match order {
-        Order::Less => extra::with_one(0, 0xFFFF_FFFF_FFFF_FFFF),
-        Order::Equal => extra::with_one(0, 0),
-        Order::Greater => extra::with_one(0, 1),
+// -1, 0 or 1, in 64 bits of two's complement.
+impl Values for Ordering {
+    ghost listed = { λ o. order_values (told_order o) };
+
+    fn values(self) -> [u64; 8] {
+        let order = match self {
+            Ordering::Less => u64::MAX,
+            Ordering::Equal => 0,
+            Ordering::Greater => 1,
+        };
+        [order, 0, 0, 0, 0, 0, 0, 0]
     }
 }

@@ -1,12 +1,11 @@
 // What became of a byte of a recording.
 ghost use Rattle.std.specs.Prelude.{◌≡◌, [], ◌∷◌};
-ghost use Rattle.frames.specs.Fate.{fate_of, told_fate};
-ghost use Rattle.peerivolt.specs.Extra.{returned, numbers, spread, in_numbers, reads};
-ghost use Rattle.peerivolt.specs.Answers.{replied};
+ghost use Rattle.frames.specs.Fate.{fate_of, known_fate};
+ghost use Rattle.peerivolt.specs.Extra.{returned, reads};
 ghost use Rattle.peerivolt.specs.Why.{fate_values};
 
 use crate::extra;
-use crate::extra::Reply;
+use crate::extra::Values;
 use frames::fate;
 use frames::fate::Fate;
 
@@ -20,31 +19,23 @@ pub extern "C" fn pv_why(recording: &[u8], place: usize, extra: &mut [u64]) -> u
     if extra.len() != 8 {
         return 9;
     }
-    extra::fill(told(fate::of(recording, place)), extra)
+    extra::tell(fate::of(recording, place), extra)
 }
 
-fn told(answer: Fate) -> Reply
-    ensures { replied result ≡ in_numbers fate_values (told_fate answer) }
-{
-    match answer {
-        Fate::InFrame { place, length } => five(0, place as u64, length as u64, 0, 0),
-        Fate::NotD3(place) => five(1, place as u64, 0, 0, 0),
-        Fate::BadCheck {
-            place,
-            sent,
-            computed,
-        } => five(2, place as u64, 0, sent as u64, computed as u64),
-        Fate::Held { place, length } => five(3, place as u64, length as u64, 0, 0),
-        Fate::Size => extra::bare(9),
-    }
-}
+// Which of the four it is, a place, a length, and the two checksums.
+impl Values for Fate {
+    ghost listed = { λ f. fate_values (known_fate f) };
 
-// A reply that is not refused and tells five numbers.
-fn five(which: u64, place: u64, length: u64, sent: u64, computed: u64) -> Reply
-    ensures { replied result ≡ numbers 0 (spread (which ∷ place ∷ length ∷ sent ∷ computed ∷ [])) }
-{
-    Reply {
-        number: 0,
-        extra: [which, place, length, sent, computed, 0, 0, 0],
+    fn values(self) -> [u64; 8] {
+        match self {
+            Fate::InFrame { place, length } => [0, place as u64, length as u64, 0, 0, 0, 0, 0],
+            Fate::NotD3(place) => [1, place as u64, 0, 0, 0, 0, 0, 0],
+            Fate::BadCheck {
+                place,
+                sent,
+                computed,
+            } => [2, place as u64, 0, sent as u64, computed as u64, 0, 0, 0],
+            Fate::Held { place, length } => [3, place as u64, length as u64, 0, 0, 0, 0, 0],
+        }
     }
 }

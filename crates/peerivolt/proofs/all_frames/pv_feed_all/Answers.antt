@@ -1,5 +1,8 @@
 -- A wrong size returns at once; else what was listed goes into the extra area. Assumes nothing.
 use mathlib.Core.Path.{◌∙◌}
+use Rattle.batch.specs.Answers.{known_listed}
+use Rattle.peerivolt.specs.AllFrames.{all_values}
+use Rattle.peerivolt.proofs.AnswerLaws.{as_told}
 use Rattle.peerivolt.proofs.AllFramesLaws.{no_extra, no_held, no_seam, all_listed}
 use Rattle.peerivolt.proofs.all_frames.pv_feed_all.Goals as goal
 
@@ -15,4 +18,4 @@ returns-then-seam-ne2058 c = no_seam _ _ _ c.if-seam-ne2058.true
 pub returns : goal.returns
 returns c =
     all_listed _ _ _ c.if-extra-ne8.false c.if-held-ne1029.false c.if-seam-ne2058.false
-    (c.fill.ensures ∙ c.all_fed.ensures) c.feed_all-answer.ensures
+    (c.tell.ensures ∙ as_told all_values known_listed c.feed_all-answer.result) c.feed_all-answer.ensures

@@ -1,7 +1,8 @@
 -- The raw number is measured, and the answer goes into the extra area. Assumes nothing.
-use mathlib.Core.Path.{sym, subst, ◌∙◌}
+use mathlib.Core.Path.{sym, subst, ◌∙◌, ap}
 use Rattle.observations.specs.Measured.{IsNumber}
 use Rattle.observations.proofs.MeasuredLaws.{pseudorange_is}
+use Rattle.peerivolt.specs.Extra.{numbers}
 use Rattle.peerivolt.specs.Message1001.{measured_values}
 use Rattle.peerivolt.proofs.AnswerLaws.{not_read, found}
 use Rattle.peerivolt.proofs.message_1001.pv_1001_pseudorange.Goals as goal
@@ -9,9 +10,9 @@ use Rattle.peerivolt.proofs.message_1001.pv_1001_pseudorange.Goals as goal
 pub returns-then-extra-ne8 : goal.returns-then-extra-ne8
 returns-then-extra-ne8 c = not_read measured_values _ _ c.if-extra-ne8.true
 
-pub measure-requires : goal.measure-requires
-measure-requires c = subst IsNumber (sym c.pseudorange.ensures) (pseudorange_is _)
+pub numbers_of-requires : goal.numbers_of-requires
+numbers_of-requires c = subst IsNumber (sym c.pseudorange.ensures) (pseudorange_is _)
 
 pub returns : goal.returns
 returns c =
-    found measured_values _ c.if-extra-ne8.false (c.fill.ensures ∙ c.measure.ensures) c.pseudorange.ensures
+    found measured_values _ c.if-extra-ne8.false (ap (numbers 0) (c.copy_from_slice.ensures ∙ c.numbers_of.ensures)) c.pseudorange.ensures

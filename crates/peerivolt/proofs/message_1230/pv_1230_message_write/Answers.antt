@@ -1,7 +1,7 @@
 -- The message is written, and the answer goes into the extra area. Assumes nothing.
 use mathlib.Core.Path.{◌∙◌}
 use Rattle.peerivolt.specs.Fields.{end_values}
-use Rattle.peerivolt.proofs.AnswerLaws.{not_sized, sized}
+use Rattle.peerivolt.proofs.AnswerLaws.{as_told, not_sized, sized}
 use Rattle.peerivolt.proofs.message_1230.pv_1230_message_write.Goals as goal
 
 pub returns-then-extra-ne8 : goal.returns-then-extra-ne8
@@ -9,4 +9,4 @@ returns-then-extra-ne8 c = not_sized end_values _ _ _ c.if-extra-ne8.true
 
 pub returns : goal.returns
 returns c =
-    sized end_values _ _ c.if-extra-ne8.false (c.fill.ensures ∙ c.block_written.ensures) c.write.ensures
+    sized end_values _ _ c.if-extra-ne8.false (c.tell.ensures ∙ as_told end_values (λ q. q) c.write.result) c.write.ensures

@@ -9,4 +9,4 @@ returns-then-extra-ne8 c = not_read number_values _ _ c.if-extra-ne8.true
 
 pub returns : goal.returns
 returns c =
-    found number_values _ c.if-extra-ne8.false (c.fill.ensures ∙ c.number_found.ensures) c.number_of.ensures
+    found number_values _ c.if-extra-ne8.false (c.tell.ensures) c.number_of.ensures

@@ -9,4 +9,4 @@ returns-then-extra-ne8 c = not_read signal_values _ _ c.if-extra-ne8.true
 
 pub returns : goal.returns
 returns c =
-    found signal_values _ c.if-extra-ne8.false (c.fill.ensures ∙ c.signal_found.ensures) c.signal_of.ensures
+    found signal_values _ c.if-extra-ne8.false (c.tell.ensures) c.signal_of.ensures

@@ -9,4 +9,4 @@ returns-then-extra-ne8 c = not_read order_values _ _ c.if-extra-ne8.true
 
 pub returns : goal.returns
 returns c =
-    found order_values _ c.if-extra-ne8.false (c.fill.ensures ∙ c.ordered.ensures) c.compare.ensures
+    found order_values _ c.if-extra-ne8.false (c.tell.ensures) c.compare.ensures

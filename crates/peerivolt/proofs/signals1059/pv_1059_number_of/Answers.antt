@@ -1,7 +1,8 @@
 -- The call reads, and its answer goes into the extra area. Assumes nothing.
 use mathlib.Core.Path.{◌∙◌}
+use Rattle.messages.specs.Answers.{found_number}
 use Rattle.peerivolt.specs.Signals.{number_values}
-use Rattle.peerivolt.proofs.AnswerLaws.{not_read, read}
+use Rattle.peerivolt.proofs.AnswerLaws.{as_told, not_read, read}
 use Rattle.peerivolt.proofs.signals1059.pv_1059_number_of.Goals as goal
 
 pub returns-then-extra-ne8 : goal.returns-then-extra-ne8
@@ -9,4 +10,4 @@ returns-then-extra-ne8 c = not_read number_values _ _ c.if-extra-ne8.true
 
 pub returns : goal.returns
 returns c =
-    read number_values _ c.if-extra-ne8.false (c.fill.ensures ∙ c.number_told.ensures) c.number_of_1059.ensures
+    read number_values _ c.if-extra-ne8.false (c.tell.ensures ∙ as_told number_values found_number c.number_of_1059.result) c.number_of_1059.ensures
