@@ -60,7 +60,11 @@ fn find_rtcm(held: &[u8], piece: &[u8], from: usize, first: usize) -> Searched
                 return Searched::More(j);
             }
             Candidate::Good(n) => {
-                return Searched::Frame(j, n, end.max(j + n) - h);
+                return Searched::Frame {
+                    skipped: j,
+                    length: n,
+                    taken: end.max(j + n) - h,
+                };
             }
             Candidate::NotValid(n) => {
                 let taken = end.max(j + n);
@@ -151,7 +155,11 @@ fn find_by(held: &[u8], piece: &[u8], from: usize, first: usize, runs: &mut [u32
                 return Searched::More(j);
             }
             Candidate::Good(n) => {
-                return Searched::Frame(j, n, end.max(j + n) - h);
+                return Searched::Frame {
+                    skipped: j,
+                    length: n,
+                    taken: end.max(j + n) - h,
+                };
             }
             Candidate::NotValid(n) => {
                 let taken = end.max(j + n);
