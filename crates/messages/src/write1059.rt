@@ -185,6 +185,7 @@ impl<'a> Records1059<'a> {
 // The records of each satellite, linked: `heads` has the index of its first record, `counts` how many it has, and `links`
 // of each record the index of the next one. The number of records stands for none: an Option would have twice the room,
 // which every call clears.
+// That they are linked is said in the contracts: a struct that says so itself is made whole, and would then be moved, 4 KB.
 #[derive(Drop)]
 struct Chains {
     heads: [u16; 64],
