@@ -76,13 +76,16 @@ fn first_fault(mask: u32, satellites: &[u8], signals: &[u8], biases: &[i16]) -> 
     ensures { told_fault result ≡ first_fault (fault_by mask) 0 (records1059 satellites.now signals.now biases.now) }
 {
     for (i, satellite) in satellites.iter().enumerate() {
+        // Both before the tests: in this form many records are looked at by one instruction.
+        let known = in_mask(mask, signals[i]);
+        let fits = fits_bias(biases[i]);
         if 63 < *satellite {
             return Err(Refusal::Satellite(i));
         }
-        if !in_mask(mask, signals[i]) {
+        if !known {
             return Err(Refusal::Signal(i));
         }
-        if !fits_bias(biases[i]) {
+        if !fits {
             return Err(Refusal::Range(i));
         }
     }
