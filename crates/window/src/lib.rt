@@ -64,7 +64,8 @@ fn fill(part: &[u8], out: &mut [u32])
     let mut sum: u32 = 0;
     out[part.len()] = 0;
     for k in (0..part.len()).rev() {
-        sum = sum ^ times(u32::from(part[k]), weight);
+        let product = times(u32::from(part[k]), weight);
+        sum = sum ^ product;
         out[k] = low(sum);
         weight = low(weight << 8);
     }

@@ -10,8 +10,8 @@ use Rattle.window.proofs.fill.Goals as goal
 pub loop-k-init : goal.loop-k-init
 loop-k-init c = let a = c.args in filling_first a.part.now a.out.now c.requires
 
-pub times-sum-requires : goal.times-sum-requires
-times-sum-requires c = c.loop-k.invariant.small
+pub times-product-requires : goal.times-product-requires
+times-product-requires c = c.loop-k.invariant.small
 
 pub loop-k-preserved : goal.loop-k-preserved
 loop-k-preserved c =
@@ -20,7 +20,7 @@ loop-k-preserved c =
     let d = set a.out.now (length a.part.now) 0 in
     filling_more a.part.now d (omega (arith, c.requires, length-set a.out.now (length a.part.now) 0))
     (λ k. (c.type_inv.part k).fits) l.out l.k l.weight l.sum _ _ _ (omega arith) l.invariant
-    (c.times-sum.ensures ∙ ap (λ (b : ℕ). times b l.weight) c.from.ensures) c.low.ensures c.low-weight.ensures
+    (c.times-product.ensures ∙ ap (λ (b : ℕ). times b l.weight) c.from.ensures) c.low.ensures c.low-weight.ensures
 
 pub shape_of-out : goal.shape_of-out
 shape_of-out c = let a = c.args in c.loop-k.invariant.as_long ∙ length-set a.out.now (length a.part.now) 0
