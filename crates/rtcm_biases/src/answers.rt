@@ -7,7 +7,7 @@ use messages::signals1059::Signal1059;
 use whole::answer;
 use whole::answer::{Header1059, Header1230};
 
-#[derive(Clone, Copy, Debug, PartialEq, Eq)]
+#[derive(Clone, Copy)]
 pub struct Signal {
     pub band: u8,
     pub letter: u8,

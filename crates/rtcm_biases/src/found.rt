@@ -8,7 +8,7 @@ use whole::answer::{Header1059, Header1230};
 use whole::{read1059, read1230};
 
 // The systems whose biases have a message: GPS 1059, and GLONASS 1230.
-#[derive(Clone, Copy, Debug, PartialEq, Eq)]
+#[derive(Clone, Copy, PartialEq, Eq)]
 pub enum System {
     Gps,
     Glonass,

@@ -9,6 +9,7 @@ use printing::{Amount, Output, Terminal};
 use reading::{Failure, Program, Recording, Step};
 use std::env::Env;
 use std::fs::{File, Files};
+use whole::answer::Header1059;
 
 // Reads what the arguments name, one after another, and shows the cache.
 pub fn all(
@@ -75,7 +76,7 @@ impl Visit for Latest {
     fn visit(&mut self, recording: &mut Recording, _settings: Settings) -> Result<(), Failure> {
         for _ in 0..u64::MAX {
             match recording.next()? {
-                Step::Frame(_) => keep(&mut self.entries, recording.frame(), &mut self.sum),
+                Step::Frame(_) => self.keep(recording.frame()),
                 Step::Piece => {}
                 Step::End => {
                     recording.say_if_empty();
@@ -87,29 +88,25 @@ impl Visit for Latest {
     }
 }
 
-// Keeps the biases of the frame, if it is a whole message 1059.
-fn keep(entries: &mut [[u16; 7]; 512], frame: &[u8], sum: &mut Sum) {
-    if System::of_frame(frame) != Some(System::Gps) {
-        return;
-    }
-    let mut lists = Lists::new();
-    match lists.whole_1059(frame::data_of(frame)) {
-        Ok(message) => {
-            let header = message.header;
-            let key = Key {
-                provider: header.provider,
-                solution: header.solution,
-                satellite: 0,
-                signal: 0,
-            };
-            sum.read(store(entries, key, header.iod, &lists, message.count));
+impl Latest {
+    // Keeps the biases of the frame, if it is a whole message 1059.
+    fn keep(&mut self, frame: &[u8]) {
+        if System::of_frame(frame) != Some(System::Gps) {
+            return;
         }
-        Err(_) => sum.refuse(),
+        let mut lists = Lists::new();
+        match lists.whole_1059(frame::data_of(frame)) {
+            Ok(message) => {
+                let lost = store(&mut self.entries, message.header, &lists, message.count);
+                self.sum.read(lost);
+            }
+            Err(_) => self.sum.refuse(),
+        }
     }
 }
 
-// Stores the first `count` records under the provider and the solution of the key, and answers how many had no room.
-fn store(entries: &mut [[u16; 7]; 512], of: Key, iod: u32, lists: &Lists, count: usize) -> u64 {
+// Stores the first `count` records of the message, and answers how many had no room.
+fn store(entries: &mut [[u16; 7]; 512], header: Header1059, lists: &Lists, count: usize) -> u64 {
     let mut lost: u64 = 0;
     let records = lists
         .satellites
@@ -118,12 +115,13 @@ fn store(entries: &mut [[u16; 7]; 512], of: Key, iod: u32, lists: &Lists, count:
         .zip(&lists.biases);
     for ((satellite, signal), bias) in records.take(count) {
         let key = Key {
+            provider: header.provider,
+            solution: header.solution,
             satellite: u32::from(*satellite),
             signal: u32::from(*signal),
-            ..of
         };
         let bias = i32::from(*bias).cast_unsigned();
-        if answers::as_stored(cache::cache::store(entries, key, iod, bias)).is_err() {
+        if answers::as_stored(cache::cache::store(entries, key, header.iod, bias)).is_err() {
             lost = lost.wrapping_add(1);
         }
     }
@@ -144,7 +142,7 @@ fn key_of(entry: &[u16; 7]) -> Option<Key> {
 }
 
 // What is shown together.
-#[derive(Clone, Copy, Debug, PartialEq, Eq)]
+#[derive(Clone, Copy, PartialEq, Eq)]
 struct Group {
     provider: u32,
     solution: u32,

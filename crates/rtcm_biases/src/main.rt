@@ -12,7 +12,7 @@ use found::System;
 use frames::frame;
 use options::Settings;
 use printing::{Output, Terminal};
-use reading::{Failure, Found, Program, Recording, Step};
+use reading::{Failure, Program, Recording, Step};
 use recordings::Visit;
 use std::env::Env;
 use std::fs::{File, Files};
@@ -36,7 +36,7 @@ fn run(rt: &(impl Env + Files<File = File>), program: &Program) -> Result<(), Fa
         return program.version();
     }
     if let Some(wrong) = asked.wrong {
-        return Err(wrong.said(rt, program));
+        return Err(wrong.say(rt, program));
     }
     if !asked.names_file {
         return Err(program.no_file());
@@ -46,74 +46,62 @@ fn run(rt: &(impl Env + Files<File = File>), program: &Program) -> Result<(), Fa
     }
     let mut tables = Tables {
         out: program.output(),
+        tally: Tally::none(),
     };
     recordings::all(rt, program, asked.rest, &mut tables)
 }
 
-// Shows the tables of each recording.
+// Shows the tables of each recording, and counts its blocks.
 #[derive(Drop)]
 struct Tables {
     out: Output<Terminal>,
+    tally: Tally,
 }
 
 impl Visit for Tables {
     fn visit(&mut self, recording: &mut Recording, settings: Settings) -> Result<(), Failure> {
-        let mut tally = Tally::none();
-        let end = show(&mut self.out, recording, settings, &mut tally);
+        self.tally = Tally::none();
+        let end = self.show(recording, settings);
         if let Err(Failure::Unwritten) = end {
             return end;
         }
-        table::closing(&mut self.out, recording.account(), tally);
+        table::closing(&mut self.out, recording.account(), self.tally);
         self.out.flush()?;
         end
     }
 }
 
-// Goes through the frames; the table of a block is written when its frame has arrived. A recording in which nothing was is
-// named on standard error.
-fn show(
-    out: &mut Output<Terminal>,
-    recording: &mut Recording,
-    settings: Settings,
-    tally: &mut Tally,
-) -> Result<(), Failure> {
-    for _ in 0..u64::MAX {
-        let is_first = recording.account().bytes == 0;
-        match recording.next()? {
-            Step::Frame(found) => {
-                show_frame(out, recording.frame(), found, settings, tally);
-                out.flush()?;
-            }
-            Step::Piece => {
-                if is_first {
-                    table::opening(out, recording.name());
+impl Tables {
+    // Goes through the frames; the table of a block is written when its frame has arrived. A recording in which nothing was
+    // is named on standard error.
+    fn show(&mut self, recording: &mut Recording, settings: Settings) -> Result<(), Failure> {
+        for _ in 0..u64::MAX {
+            let is_first = recording.account().bytes == 0;
+            match recording.next()? {
+                Step::Frame(found) => {
+                    self.show_frame(recording.frame(), found.place, settings);
+                    self.out.flush()?;
+                }
+                Step::Piece => {
+                    if is_first {
+                        table::opening(&mut self.out, recording.name());
+                    }
+                }
+                Step::End => {
+                    recording.say_if_empty();
+                    return Ok(());
                 }
             }
-            Step::End => {
-                recording.say_if_empty();
-                return Ok(());
-            }
         }
+        Ok(())
     }
-    Ok(())
-}
 
-// Shows the frame, if its message is 1059 or 1230.
-fn show_frame(
-    out: &mut Output<Terminal>,
-    frame: &[u8],
-    found: Found,
-    settings: Settings,
-    tally: &mut Tally,
-) {
-    if let Some(system) = System::of_frame(frame) {
-        table::message(
-            out,
-            system,
-            found.place,
-            frame::data_of(frame),
-            settings,
-            tally,
-        );
+    // Shows the frame, if its message is 1059 or 1230.
+    fn show_frame(&mut self, frame: &[u8], place: u64, settings: Settings) {
+        if let Some(system) = System::of_frame(frame) {
+            let data = frame::data_of(frame);
+            let answer = table::message(&mut self.out, system, place, data, settings);
+            self.tally.count(answer);
+        }
     }
 }

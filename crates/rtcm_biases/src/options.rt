@@ -65,7 +65,7 @@ impl Settings {
 }
 
 // The options behind which a number stands: a data bit, or an edition.
-#[derive(Clone, Copy, Debug, PartialEq, Eq)]
+#[derive(Clone, Copy)]
 pub enum Numbered {
     Start,
     Start1059,
@@ -95,7 +95,7 @@ impl Numbered {
 }
 
 // What an argument is to this program.
-#[derive(Clone, Copy, Debug, PartialEq, Eq)]
+#[derive(Clone, Copy)]
 pub enum Argument {
     // An option behind which its number is to stand.
     Option(Numbered),
@@ -143,7 +143,7 @@ fn number(digits: &[u8]) -> Option<u32> {
 }
 
 // What is wrong with the arguments.
-#[derive(Clone, Copy, Debug, PartialEq, Eq)]
+#[derive(Clone, Copy)]
 pub enum Wrong {
     // There is no such option as the argument at the place.
     Unknown(usize),
@@ -153,7 +153,7 @@ pub enum Wrong {
 
 impl Wrong {
     // Says it.
-    pub fn said(self, env: &impl Env, program: &Program) -> Failure {
+    pub fn say(self, env: &impl Env, program: &Program) -> Failure {
         match self {
             Wrong::Unknown(i) => program.unknown(env, i),
             Wrong::Number => {

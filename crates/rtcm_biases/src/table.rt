@@ -29,17 +29,17 @@ impl Tally {
         self.read == 0 && self.refused == 0
     }
 
-    // One more block is read, with so many bits behind it.
-    fn read(&mut self, left: usize) {
-        self.read = self.read.wrapping_add(1);
-        if is_warned_of(left) {
-            self.unread = self.unread.wrapping_add(1);
+    // One more block is read, with so many bits behind it, or refused.
+    pub fn count(&mut self, answer: Result<usize, Refusal>) {
+        match answer {
+            Ok(left) => {
+                self.read = self.read.wrapping_add(1);
+                if is_warned_of(left) {
+                    self.unread = self.unread.wrapping_add(1);
+                }
+            }
+            Err(_) => self.refused = self.refused.wrapping_add(1),
         }
-    }
-
-    // One more is refused.
-    fn refuse(&mut self) {
-        self.refused = self.refused.wrapping_add(1);
     }
 }
 
@@ -49,15 +49,14 @@ pub fn opening(out: &mut Output<Terminal>, name: &[u8]) {
     out.text("\n");
 }
 
-// The message of the system, whose frame begins at the place.
+// The message of the system, whose frame begins at the place. Answers how many bits are behind its block.
 pub fn message(
     out: &mut Output<Terminal>,
     system: System,
     place: u64,
     data: &[u8],
     settings: Settings,
-    tally: &mut Tally,
-) {
+) -> Result<usize, Refusal> {
     out.phrase("  message ", u64::from(system.message()), 0, " at byte ");
     out.unsigned(place, 0);
     let mut lists = Lists::new();
@@ -67,11 +66,11 @@ pub fn message(
             rows(out, system, settings.edition, &lists, found.count);
             let left = left_behind(data, found.end);
             left_over(out, left);
-            tally.read(left);
+            Ok(left)
         }
         Err(refusal) => {
             refused(out, refusal);
-            tally.refuse();
+            Err(refusal)
         }
     }
 }
