@@ -1,10 +1,10 @@
 // What a frame holds: a whole message with its header, or the block of one at a named data bit.
-use crate::answers;
-use crate::answers::{Message1059, Message1230, Records, Signal};
 use bits::refusal::Refusal;
+use messages::answer::Records;
 use messages::bias::{Bias1059, Bias1230};
+use messages::signals::Signal;
 use messages::{read1059 as block1059, read1230 as block1230, signals, signals1059};
-use whole::answer::{Header1059, Header1230};
+use whole::answer::{Header1059, Header1230, Message1059, Message1230};
 use whole::{read1059, read1230};
 
 // The systems whose biases have a message: GPS 1059, and GLONASS 1230.
@@ -44,7 +44,7 @@ impl System {
     pub fn signal(self, edition: u32, number: u8) -> Option<Signal> {
         match self {
             System::Gps => signal_of_1059(edition, u32::from(number)),
-            System::Glonass => answers::as_signal(signals::signal_of(1, u32::from(number))),
+            System::Glonass => signals::signal_of(1, u32::from(number)),
         }
     }
 
@@ -59,7 +59,7 @@ impl System {
 
 // The signal of message 1059; none where there is no such edition too.
 pub fn signal_of_1059(edition: u32, number: u32) -> Option<Signal> {
-    answers::as_signal1059(signals1059::signal_of_1059(edition, number)).unwrap_or(None)
+    signals1059::signal_of_1059(edition, number).unwrap_or(None)
 }
 
 // What stands before a block.
@@ -144,7 +144,7 @@ impl Lists {
             signals,
             biases,
         } = self;
-        answers::as_message1059(read1059::read(data, satellites, signals, biases))
+        read1059::read(data, satellites, signals, biases)
     }
 
     fn whole_1230(&mut self, data: &[u8]) -> Result<Message1230, Refusal> {
@@ -153,7 +153,7 @@ impl Lists {
             biases,
             ..
         } = self;
-        answers::as_message1230(read1230::read(data, signals, biases))
+        read1230::read(data, signals, biases)
     }
 
     // Reads the block alone.
@@ -163,9 +163,9 @@ impl Lists {
             signals,
             biases,
         } = self;
-        answers::as_records(match system {
+        match system {
             System::Gps => block1059::read(data, start, satellites, signals, biases),
             System::Glonass => block1230::read(data, start, signals, biases),
-        })
+        }
     }
 }

@@ -2,7 +2,7 @@
 use crate::found::{Lists, System};
 use crate::options::{Asked, Settings};
 use crate::recordings::Visit;
-use crate::{answers, found, recordings, table};
+use crate::{found, recordings, table};
 use cache::cache::Key;
 use frames::frame;
 use printing::{Amount, Output, Terminal};
@@ -121,7 +121,7 @@ fn store(entries: &mut [[u16; 7]; 512], header: Header1059, lists: &Lists, count
             signal: u32::from(*signal),
         };
         let bias = i32::from(*bias).cast_unsigned();
-        if answers::as_stored(cache::cache::store(entries, key, header.iod, bias)).is_err() {
+        if cache::cache::store(entries, key, header.iod, bias).is_err() {
             lost = lost.wrapping_add(1);
         }
     }
@@ -194,7 +194,7 @@ fn show_group(out: &mut Output<Terminal>, group: Group, entries: &[[u16; 7]; 512
 
 // The row of a key: what a lookup of it finds. A raw bias of message 1059 is in hundredths of a metre.
 fn row(out: &mut Output<Terminal>, key: Key, entries: &[[u16; 7]; 512], edition: u32) {
-    let Ok(value) = answers::as_value(cache::cache::lookup(entries, key)) else {
+    let Ok(value) = cache::cache::lookup(entries, key) else {
         return;
     };
     let bias = Amount::from(i64::from(value.bias.cast_signed()));

@@ -1,7 +1,6 @@
 // Shows the biases of recordings: each message 1059 and 1230 as a table.
 #![tactic(auto)]
 
-mod answers;
 mod found;
 mod latest;
 mod options;

@@ -1,8 +1,8 @@
 // The table of one message.
-use crate::answers::Signal;
 use crate::found::{Found, Head, Lists, System};
 use crate::options::Settings;
 use bits::refusal::Refusal;
+use messages::signals::Signal;
 use printing::{Amount, Output, Terminal};
 use reading::Account;
 use whole::answer::{Header1059, Header1230};
