@@ -285,22 +285,22 @@ module _ (s q : List ℕ) (base stop : ℕ) (w : Runs s q base stop) (i n : ℕ)
 pub le_by : {a b i : ℕ} → a ≡ b → b ≤ i → a ≤ i
 le_by {a} {b} {i} e h = omega arith
 
-module _ {mode : ℕ} {s q r : List ℕ} {base stop foot head : ℕ} (y : Ready mode s q r base stop foot head) where
-  pub tails_anew : {q₁ : List ℕ} {base₁ stop₁ foot₁ head₁ : ℕ} → foot₁ ≡ foot → head₁ ≡ head → length q₁ ≡ 4097 → Tails s q₁ base₁ stop₁ → Ready mode s q₁ r base₁ stop₁ foot₁ head₁
+module _ {s q r : List ℕ} {base stop foot head : ℕ} (y : Ready s q r base stop foot head) where
+  pub tails_anew : {q₁ : List ℕ} {base₁ stop₁ foot₁ head₁ : ℕ} → foot₁ ≡ foot → head₁ ≡ head → length q₁ ≡ 4097 → Tails s q₁ base₁ stop₁ → Ready s q₁ r base₁ stop₁ foot₁ head₁
   tails_anew e f l t =
       record { tails = t; tails_room = l; runs = subst₂ (λ (j k : ℕ). Runs s r j k) (sym e) (sym f) y.runs; runs_room = y.runs_room }
 
-  pub runs_anew : {r₁ : List ℕ} {base₁ stop₁ foot₁ head₁ : ℕ} → base₁ ≡ base → stop₁ ≡ stop → length r₁ ≡ 4097 → Runs s r₁ foot₁ head₁ → Ready mode s q r₁ base₁ stop₁ foot₁ head₁
+  pub runs_anew : {r₁ : List ℕ} {base₁ stop₁ foot₁ head₁ : ℕ} → base₁ ≡ base → stop₁ ≡ stop → length r₁ ≡ 4097 → Runs s r₁ foot₁ head₁ → Ready s q r₁ base₁ stop₁ foot₁ head₁
   runs_anew e f l t =
-      record { tails = subst₂ (λ (j k : ℕ). Tails s q j k) (sym e) (sym f) y.tails; tails_room = y.tails_room; runs = t; runs_room = λ n. l }
+      record { tails = subst₂ (λ (j k : ℕ). Tails s q j k) (sym e) (sym f) y.tails; tails_room = y.tails_room; runs = t; runs_room = l }
 
 -- the windows of a search that begins at place i: one of tails, and an empty one of runs
-pub begins_ready : {mode : ℕ} {s q r : List ℕ} {base stop i base₁ stop₁ foot₁ head₁ : ℕ} → base₁ ≡ base → stop₁ ≡ stop → foot₁ ≡ i → head₁ ≡ i → Tails s q base stop → length q ≡ 4097
-    → i ≤ length s → 0 < length r → get_or r 0 0 ≡ 0 → ((mode ≡ 0 → ⊥) → length r ≡ 4097) → Ready mode s q r base₁ stop₁ foot₁ head₁
-begins_ready {mode} {s} {q} {r} {base} {stop} {i} eb es ef eh t room l some first runs_room =
+pub begins_ready : {s q r : List ℕ} {base stop i base₁ stop₁ foot₁ head₁ : ℕ} → base₁ ≡ base → stop₁ ≡ stop → foot₁ ≡ i → head₁ ≡ i → Tails s q base stop → length q ≡ 4097
+    → i ≤ length s → length r ≡ 4097 → get_or r 0 0 ≡ 0 → Ready s q r base₁ stop₁ foot₁ head₁
+begins_ready {s} {q} {r} {base} {stop} {i} eb es ef eh t room l runs_room first =
     record {
       tails = subst₂ (λ x y. Tails s q x y) (sym eb) (sym es) t;
       tails_room = room;
-      runs = subst₂ (λ x y. Runs s r x y) (sym ef) (sym eh) (no_runs s r i l some first);
+      runs = subst₂ (λ x y. Runs s r x y) (sym ef) (sym eh) (no_runs s r i l (omega arith) first);
       runs_room = runs_room;
     }

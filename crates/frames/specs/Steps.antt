@@ -106,12 +106,12 @@ Claim s i Incomplete = Incomplete ≡ candidate ubx.ubx (drop i s)
 Claim s i (NotValid n) = NotValid n ≡ candidate ubx.ubx (drop i s)
 Claim s i (Good n) = (8 ≤ n) × Whole s i (n - 8)
 
--- the windows of a search in s: the tails in q, and in every mode but 0 the runs in r
-pub record Ready (mode : ℕ) (s q r : List ℕ) (base stop ubxBase ubxStop : ℕ) : Type 0 where
+-- the windows of a search in s for both kinds: the tails in q, and the runs in r
+pub record Ready (s q r : List ℕ) (base stop ubxBase ubxStop : ℕ) : Type 0 where
   pub tails : Tails s q base stop
   pub tails_room : length q ≡ 4097
   pub runs : Runs s r ubxBase ubxStop
-  pub runs_room : (mode ≡ 0 → ⊥) → length r ≡ 4097
+  pub runs_room : length r ≡ 4097
 
 -- The places found lie within the n bytes held and the m bytes of the piece, and what is left has room in an area of so many bytes.
 abbrev pub CanHold : (area n m : ℕ) → Searched → Type 0

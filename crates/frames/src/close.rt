@@ -60,7 +60,11 @@ fn carry_out(held: &mut [u8], scanner: Scanner, out: &mut [u8], searched: Search
                 scanner: scanner::onwards(scanner, 0, count - i),
             }
         }
-        Searched::Frame(i, length, _) => {
+        Searched::Frame {
+            skipped: i,
+            length,
+            ..
+        } => {
             let behind = i + length;
             frame::put_at(&held[i..behind], out, 0);
             scanner::shift(held, behind, count - behind);

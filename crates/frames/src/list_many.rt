@@ -2,7 +2,7 @@
 ghost use Rattle.std.specs.Prelude.{◌≡◌, ◌++◌, ◌+◌, ◌-◌, ◌<◌, length, get_or, drop};
 ghost use Rattle.frames.specs.Scan.{scan};
 ghost use Rattle.frames.specs.Framing.{decide};
-ghost use Rattle.frames.specs.Modes.{framing_of};
+ghost use Rattle.frames.specs.Modes.{both, framing_of};
 ghost use Rattle.frames.specs.ListSteps.{list_on, Sizes, Within};
 
 use crate::list::Listing;
@@ -26,7 +26,7 @@ pub(crate) fn list_on(
         return list_rtcm(held, piece, room, reached, starts, lengths);
     }
     let mut runs = [0u32; 4097];
-    list_by(held, piece, mode, room, reached, &mut runs, starts, lengths)
+    list_by(held, piece, room, reached, &mut runs, starts, lengths)
 }
 
 // The same of RTCM only. The first window is a small one, since many frames may stand near.
@@ -77,19 +77,18 @@ fn list_rtcm(
     list::ended(k, i, framed, true)
 }
 
-// The same of both kinds.
+// The same of both kinds. It is not one with the listing of RTCM, which would have to clear the sums of UBX too.
 fn list_by(
     held: &[u8],
     piece: &[u8],
-    mode: u32,
     room: usize,
     reached: Listing,
     runs: &mut [u32],
     starts: &mut [u32],
     lengths: &mut [u32],
 ) -> Listing
-    requires { Sizes (length held.now) (length piece.now) room starts.old lengths.old × Within (length held.now + length piece.now) room reached × (0 < length runs.old) × (get_or runs.old 0 0 ≡ 0) × ((mode ≡ 0 → ⊥) → length runs.old ≡ 4097) × (mode ≡ 0 → ⊥) }
-    ensures { (result, starts.new, lengths.new) ≡ list_on (room - reached.count) reached.count reached.stop reached.framed (scan (decide (framing_of mode)) (drop reached.stop (held.now ++ piece.now))).items starts.old lengths.old }
+    requires { Sizes (length held.now) (length piece.now) room starts.old lengths.old × Within (length held.now + length piece.now) room reached × (length runs.old ≡ 4097) × (get_or runs.old 0 0 ≡ 0) }
+    ensures { (result, starts.new, lengths.new) ≡ list_on (room - reached.count) reached.count reached.stop reached.framed (scan (decide both) (drop reached.stop (held.now ++ piece.now))).items starts.old lengths.old }
 {
     let all = held.len() + piece.len();
     let mut i = reached.stop;
@@ -99,11 +98,11 @@ fn list_by(
     let near = many::open(held, piece, i, 1536, &mut sums);
     let mut at = many::begun(near, i);
     while k < room {
-        let j = scan::next_start(held, piece, i, mode);
+        let j = scan::next_start(held, piece, i, 1);
         if all <= j {
             return list::ended(k, j, framed, false);
         }
-        let judged = many::judge(held, piece, at, j, mode, &mut sums, runs);
+        let judged = many::judge(held, piece, at, j, &mut sums, runs);
         at = judged.windows;
         let found = judged.candidate;
         match found {
@@ -111,7 +110,7 @@ fn list_by(
                 return list::ended(k, j, framed, false);
             }
             Candidate::NotValid(_) => {
-                let on = many::pass_both(held, piece, at, mode, j + 1, all, &sums, runs);
+                let on = many::pass_both(held, piece, at, j + 1, all, &sums, runs);
                 i = on.place;
             }
             Candidate::Good(n) => {

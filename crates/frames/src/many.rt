@@ -7,8 +7,8 @@ ghost use Rattle.frames.specs.Feed.{feed};
 ghost use Rattle.frames.specs.Rtcm.{rtcm};
 ghost use Rattle.frames.specs.Frame.{data_length};
 ghost use Rattle.frames.specs.Ubx.{ubx};
-ghost use Rattle.frames.specs.Modes.{framing_of};
-ghost use Rattle.frames.specs.Steps.{starts_in, candidate, searched, Reached, Tails, Runs, Whole, Ready, Passes};
+ghost use Rattle.frames.specs.Modes.{both, framing_of};
+ghost use Rattle.frames.specs.Steps.{starts_either, candidate, searched, Reached, Tails, Runs, Whole, Ready, Passes};
 ghost use Rattle.frames.specs.declared.scan.Candidate.TheVariants.{NotValid};
 
 use crate::scan::{Candidate, Searched};
@@ -31,7 +31,7 @@ pub(crate) fn find_on(held: &[u8], piece: &[u8], mode: u32, from: usize, first: 
         return find_rtcm(held, piece, from, first);
     }
     let mut runs = [0u32; 4097];
-    find_by(held, piece, mode, from, first, &mut runs)
+    find_by(held, piece, from, first, &mut runs)
 }
 
 // The same for RTCM only. The first window is a small one, since a frame may stand near.
@@ -60,7 +60,11 @@ fn find_rtcm(held: &[u8], piece: &[u8], from: usize, first: usize) -> Searched
                 return Searched::More(j);
             }
             Candidate::Good(n) => {
-                return Searched::Frame(j, n, end.max(j + n) - h);
+                return Searched::Frame {
+                    skipped: j,
+                    length: n,
+                    taken: end.max(j + n) - h,
+                };
             }
             Candidate::NotValid(n) => {
                 let taken = end.max(j + n);
@@ -126,17 +130,10 @@ pub(crate) fn data_length(piece: &[u8], i: usize) -> usize
     (piece[i + 1] as usize * 0x100 + piece[i + 2] as usize) % 1024
 }
 
-// The same for both kinds.
-fn find_by(
-    held: &[u8],
-    piece: &[u8],
-    mode: u32,
-    from: usize,
-    first: usize,
-    runs: &mut [u32],
-) -> Searched
-    requires { (Reached (framing_of mode) held.now piece.now from (first - length held.now)) × (length held.now ≤ first) × (length held.now + length piece.now < 2 ^ 64) × (0 < length runs.old) × (get_or runs.old 0 0 ≡ 0) × ((mode ≡ 0 → ⊥) → length runs.old ≡ 4097) × (mode ≡ 0 → ⊥) }
-    ensures { result ≡ searched (feed (decide (framing_of mode)) held.now piece.now) }
+// The same for both kinds. It is not one with the search for RTCM, which would have to clear the sums of UBX too.
+fn find_by(held: &[u8], piece: &[u8], from: usize, first: usize, runs: &mut [u32]) -> Searched
+    requires { (Reached both held.now piece.now from (first - length held.now)) × (length held.now ≤ first) × (length held.now + length piece.now < 2 ^ 64) × (length runs.old ≡ 4097) × (get_or runs.old 0 0 ≡ 0) }
+    ensures { result ≡ searched (feed (decide both) held.now piece.now) }
 {
     let h = held.len();
     let all = h + piece.len();
@@ -146,11 +143,11 @@ fn find_by(
     let mut i = from;
     let mut end = first;
     while i < all {
-        let j = scan::next_start(held, piece, i, mode);
+        let j = scan::next_start(held, piece, i, 1);
         if all <= j {
             return Searched::More(j);
         }
-        let judged = judge(held, piece, at, j, mode, &mut sums, runs);
+        let judged = judge(held, piece, at, j, &mut sums, runs);
         at = judged.windows;
         let found = judged.candidate;
         match found {
@@ -158,11 +155,15 @@ fn find_by(
                 return Searched::More(j);
             }
             Candidate::Good(n) => {
-                return Searched::Frame(j, n, end.max(j + n) - h);
+                return Searched::Frame {
+                    skipped: j,
+                    length: n,
+                    taken: end.max(j + n) - h,
+                };
             }
             Candidate::NotValid(n) => {
                 let taken = end.max(j + n);
-                let on = pass_both(held, piece, at, mode, j + 1, taken, &sums, runs);
+                let on = pass_both(held, piece, at, j + 1, taken, &sums, runs);
                 end = on.end;
                 i = on.place;
             }
@@ -176,14 +177,13 @@ pub(crate) fn pass_both(
     held: &[u8],
     piece: &[u8],
     at: Windows,
-    mode: u32,
     from: usize,
     first: usize,
     sums: &[u32],
     runs: &[u32],
 ) -> Passed
-    requires { (mode ≡ 0 → ⊥) × (from ≤ length held.now + length piece.now) × (length held.now ≤ first) × (length held.now + length piece.now < 2 ^ 64) × (at.base ≤ from) × (at.ubx_base ≤ from) × Ready mode (held.now ++ piece.now) sums.now runs.now at.base at.stop at.ubx_base at.ubx_stop }
-    ensures { Passes (framing_of mode) held.now piece.now from first result.place result.end }
+    requires { (from ≤ length held.now + length piece.now) × (length held.now ≤ first) × (length held.now + length piece.now < 2 ^ 64) × (at.base ≤ from) × (at.ubx_base ≤ from) × Ready (held.now ++ piece.now) sums.now runs.now at.base at.stop at.ubx_base at.ubx_stop }
+    ensures { Passes both held.now piece.now from first result.place result.end }
 {
     let h = held.len();
     let all = h + piece.len();
@@ -197,7 +197,7 @@ pub(crate) fn pass_both(
         if all <= j {
             return Passed { place: i, end };
         }
-        let Some(n) = failing(held, piece, at, j, mode, sums, runs) else {
+        let Some(n) = failing(held, piece, at, j, sums, runs) else {
             return Passed { place: i, end };
         };
         end = end.max(j + n);
@@ -213,12 +213,11 @@ fn failing(
     piece: &[u8],
     at: Windows,
     i: usize,
-    mode: u32,
     sums: &[u32],
     runs: &[u32],
 ) -> Option<usize>
-    requires { (length held.now ≤ i) × (i < length held.now + length piece.now) × (length held.now + length piece.now < 2 ^ 64) × (starts_in mode (get_or (held.now ++ piece.now) i 0) ≡ true) × (at.base ≤ i) × (at.ubx_base ≤ i) × Ready mode (held.now ++ piece.now) sums.now runs.now at.base at.stop at.ubx_base at.ubx_stop }
-    ensures { IfSome result (λ n. NotValid n ≡ candidate (framing_of mode) (drop i (held.now ++ piece.now))) }
+    requires { (length held.now ≤ i) × (i < length held.now + length piece.now) × (length held.now + length piece.now < 2 ^ 64) × (starts_either (get_or (held.now ++ piece.now) i 0) ≡ true) × (at.base ≤ i) × (at.ubx_base ≤ i) × Ready (held.now ++ piece.now) sums.now runs.now at.base at.stop at.ubx_base at.ubx_stop }
+    ensures { IfSome result (λ n. NotValid n ≡ candidate both (drop i (held.now ++ piece.now))) }
 {
     if piece[i - held.len()] == 0xB5 {
         return ubx_failing(held, piece, at.ubx_base, at.ubx_stop, i, runs);
@@ -356,12 +355,11 @@ pub(crate) fn judge(
     piece: &[u8],
     at: Windows,
     i: usize,
-    mode: u32,
     sums: &mut [u32],
     runs: &mut [u32],
 ) -> Judged
-    requires { (i < length held.now + length piece.now) × (length held.now + length piece.now < 2 ^ 64) × (starts_in mode (get_or (held.now ++ piece.now) i 0) ≡ true) × (at.base ≤ i) × (at.ubx_base ≤ i) × Ready mode (held.now ++ piece.now) sums.old runs.old at.base at.stop at.ubx_base at.ubx_stop }
-    ensures { (result.candidate ≡ candidate (framing_of mode) (drop i (held.now ++ piece.now))) × (result.windows.base ≤ i) × (result.windows.ubx_base ≤ i) × Ready mode (held.now ++ piece.now) sums.new runs.new result.windows.base result.windows.stop result.windows.ubx_base result.windows.ubx_stop × (length runs.new ≡ length runs.old) }
+    requires { (i < length held.now + length piece.now) × (length held.now + length piece.now < 2 ^ 64) × (starts_either (get_or (held.now ++ piece.now) i 0) ≡ true) × (at.base ≤ i) × (at.ubx_base ≤ i) × Ready (held.now ++ piece.now) sums.old runs.old at.base at.stop at.ubx_base at.ubx_stop }
+    ensures { (result.candidate ≡ candidate both (drop i (held.now ++ piece.now))) × (result.windows.base ≤ i) × (result.windows.ubx_base ≤ i) × Ready (held.now ++ piece.now) sums.new runs.new result.windows.base result.windows.stop result.windows.ubx_base result.windows.ubx_stop × (length runs.new ≡ length runs.old) }
 {
     if scan::byte_at(held, piece, i) == 0xB5 {
         return by_runs(held, piece, at, i, runs);

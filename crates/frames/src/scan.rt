@@ -34,7 +34,11 @@ pub fn next_frame(bytes: &[u8], from: usize) -> Next
     }
     match first_frame(&bytes[0..0], &bytes[from..all], 0) {
         Searched::More(i) => Next::Held(from + i),
-        Searched::Frame(i, length, _) => Next::Frame {
+        Searched::Frame {
+            skipped: i,
+            length,
+            ..
+        } => Next::Frame {
             place: from + i,
             length,
         },
@@ -46,7 +50,11 @@ pub fn next_frame(bytes: &[u8], from: usize) -> Next
 #[derive(Clone, Copy)]
 pub(crate) enum Searched {
     More(usize),
-    Frame(usize, usize, usize),
+    Frame {
+        skipped: usize,
+        length: usize,
+        taken: usize,
+    },
 }
 
 // The first frame of the held bytes with the piece behind them: in mode 0 of RTCM, else of either kind. A call for RTCM has
@@ -103,7 +111,11 @@ fn first_frame(held: &[u8], piece: &[u8], mode: u32) -> Searched
                 return Searched::More(start);
             }
             Candidate::Good(n) => {
-                return Searched::Frame(start, n, end.max(start + n) - h);
+                return Searched::Frame {
+                    skipped: start,
+                    length: n,
+                    taken: end.max(start + n) - h,
+                };
             }
             Candidate::NotValid(n) => {
                 end = end.max(start + n);
@@ -128,7 +140,13 @@ pub(crate) fn find_at_end(held: &[u8], mode: u32) -> Searched
             return Searched::More(at);
         }
         match candidate_at(held, &held[0..0], at, mode) {
-            Candidate::Good(n) => return Searched::Frame(at, n, 0),
+            Candidate::Good(n) => {
+                return Searched::Frame {
+                    skipped: at,
+                    length: n,
+                    taken: 0,
+                };
+            }
             Candidate::NotValid(_) => i = at + 1,
             Candidate::Incomplete => i = at + 1,
         }

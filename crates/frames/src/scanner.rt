@@ -135,7 +135,11 @@ fn carry_out(
                 scanner: onwards(scanner, piece.len(), n),
             }
         }
-        scan::Searched::Frame(skipped, length, taken) => {
+        scan::Searched::Frame {
+            skipped,
+            length,
+            taken,
+        } => {
             let front = &piece[0..taken];
             gather(out, &held[0..count], front, skipped, length);
             let n = slide(held, count, front, skipped + length);

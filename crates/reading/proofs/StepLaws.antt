@@ -1,5 +1,6 @@
 -- What feeding and closing keep of the bytes that an account counts as held. Assumes nothing.
 use Rattle.std.proofs.Common.{◌≡◌, ℕ, ◌+◌, ◌≤◌, List, length, subst}
+use Rattle.std.specs.Prelude.{Ok}
 use Rattle.bits.specs.Outcome.{outcome}
 use Rattle.frames.specs.Modes.{framing_of}
 use Rattle.frames.specs.Call.{Scanner, feed_of}
@@ -20,27 +21,27 @@ from n m = record { count = n; taken = n; mode = m }
 -- The scanner z holds the first n bytes of an area, and y is the one behind the call.
 module _ (held out : List ℕ) {held' out' : List ℕ} {z y : S.Scanner} {n m : ℕ} (e : known z ≡ from n m) where
   module _ (piece : List ℕ) {t s : ℕ} where
-    pub fed_frame : {l p : ℕ} (k : Kind) → outcome (told_fed (D.Frame l t s p k y)) (held', out') ≡ feed_of (framing_of z.mode) held (known z) piece out
+    pub fed_frame : {l p : ℕ} (k : Kind) → outcome (told_fed (Ok (D.Frame l t s p k y))) (held', out') ≡ feed_of (framing_of z.mode) held (known z) piece out
         → (t ≤ length piece) × (n + t ≡ s + l + y.count) × (y.count ≤ 1029)
     fed_frame {l} {p} k o =
-        let f = subst (λ x. outcome (told_fed (D.Frame l t s p k y)) (held', out') ≡ feed_of (framing_of x.mode) held x piece out) e o in
+        let f = subst (λ x. outcome (told_fed (Ok (D.Frame l t s p k y))) (held', out') ≡ feed_of (framing_of x.mode) held x piece out) e o in
         let g = A.frame_keeps (framing_of m) held (from n m) piece out (lawful m) l t s p (told_kind k) (known y) held' out' f in
         (g.0, g.1, g.2)
 
-    pub fed_more : outcome (told_fed (D.More t s y)) (held', out') ≡ feed_of (framing_of z.mode) held (known z) piece out → (n + length piece ≡ s + y.count) × (y.count ≤ 1029)
+    pub fed_more : outcome (told_fed (Ok (D.More t s y))) (held', out') ≡ feed_of (framing_of z.mode) held (known z) piece out → (n + length piece ≡ s + y.count) × (y.count ≤ 1029)
     fed_more o =
-        let f = subst (λ x. outcome (told_fed (D.More t s y)) (held', out') ≡ feed_of (framing_of x.mode) held x piece out) e o in
+        let f = subst (λ x. outcome (told_fed (Ok (D.More t s y))) (held', out') ≡ feed_of (framing_of x.mode) held x piece out) e o in
         let g = A.more_keeps (framing_of m) held (from n m) piece out (lawful m) t s (known y) held' out' f in
         (g.0, g.1)
 
   module _ {s : ℕ} where
-    pub closed_frame : {l p : ℕ} (k : Kind) → outcome (told_closed (E.Frame l s p k y)) (held', out') ≡ close_of (framing_of z.mode) held (known z) out → (n ≡ s + l + y.count) × (y.count ≤ 1029)
+    pub closed_frame : {l p : ℕ} (k : Kind) → outcome (told_closed (Ok (E.Frame l s p k y))) (held', out') ≡ close_of (framing_of z.mode) held (known z) out → (n ≡ s + l + y.count) × (y.count ≤ 1029)
     closed_frame {l} {p} k o =
-        let f = subst (λ x. outcome (told_closed (E.Frame l s p k y)) (held', out') ≡ close_of (framing_of x.mode) held x out) e o in
+        let f = subst (λ x. outcome (told_closed (Ok (E.Frame l s p k y))) (held', out') ≡ close_of (framing_of x.mode) held x out) e o in
         let g = C.frame_keeps (framing_of m) (lawful m) held (from n m) out held' out' s (known y) l p (told_kind k) f in
         (g.0, g.1)
 
-    pub closed_done : outcome (told_closed (E.Done s y)) (held', out') ≡ close_of (framing_of z.mode) held (known z) out → n ≡ s
+    pub closed_done : outcome (told_closed (Ok (E.Done s y))) (held', out') ≡ close_of (framing_of z.mode) held (known z) out → n ≡ s
     closed_done o =
-        let f = subst (λ x. outcome (told_closed (E.Done s y)) (held', out') ≡ close_of (framing_of x.mode) held x out) e o in
+        let f = subst (λ x. outcome (told_closed (Ok (E.Done s y))) (held', out') ≡ close_of (framing_of x.mode) held x out) e o in
         C.done_keeps (framing_of m) (lawful m) held (from n m) out held' out' s (known y) f

@@ -1,17 +1,11 @@
 -- A frame that is handed out, and its message number. Assumes nothing.
-use Rattle.std.specs.Prelude.{ℕ, cond, List, [], length, take, nat_lt, Some, None}
-use Rattle.std.specs.Prelude as P
-use Rattle.std.proofs.Math.Option.{Option, none, some}
+use Rattle.std.specs.Prelude.{ℕ, cond, List, [], length, take, nat_lt}
+use Rattle.std.proofs.Math.Option.{Option}
 use Rattle.frames.specs.Frame.{number_of, inside_part}
 
 -- the frame of n bytes at the front of s; nothing if s does not have them
 abbrev pub frame_in : List ℕ → ℕ → List ℕ
 frame_in s n = cond (nat_lt (length s) n) [] (take n s)
-
--- a message number, or that there is none
-abbrev pub told_option : P.Option ℕ → Option ℕ
-told_option None = none
-told_option (Some n) = some n
 
 -- the message number of a frame's data
 abbrev pub number_in : List ℕ → Option ℕ

@@ -1,9 +1,9 @@
 // A frame that is handed out, and its message number, taken from its own bytes with no check.
 ghost use Rattle.std.specs.Prelude.{◌≡◌};
-ghost use Rattle.reading.specs.Number.{frame_in, number_in, told_option};
+ghost use Rattle.frames.specs.Answers.{told_number};
+ghost use Rattle.reading.specs.Number.{frame_in, number_in};
 
 use frames::frame;
-use frames::frame::Number;
 
 // The frame of so many bytes at the front of the area.
 pub fn frame_of(area: &[u8], length: usize) -> &[u8]
@@ -14,10 +14,7 @@ pub fn frame_of(area: &[u8], length: usize) -> &[u8]
 
 // The message number of a frame; none if its data are fewer than two bytes.
 pub fn number_of(frame: &[u8]) -> Option<u16>
-    ensures { told_option result ≡ number_in frame.now }
+    ensures { told_number result ≡ number_in frame.now }
 {
-    match frame::number_of(frame::data_of(frame)) {
-        Number::Is(number) => Some(number),
-        Number::Absent => None,
-    }
+    frame::number_of(frame::data_of(frame))
 }

@@ -1,296 +1,253 @@
 // What the arguments ask for, and what is said to the user.
-use reading::arguments;
-use reading::arguments::{Kind, same};
+use crate::found::System;
+use reading::arguments::{Kind, Word};
+use reading::{Failure, Program, arguments, asked};
+use std::env::Env;
+use std::str;
 
 // The data bits at which the blocks start, and the edition of the 1059 signals.
 #[derive(Clone, Copy)]
 pub struct Settings {
-    pub of_1059: usize,
-    pub of_1230: usize,
+    of_1059: usize,
+    of_1230: usize,
     pub edition: u32,
 }
 
-// What holds as a rule: blocks start behind the header of their message.
-pub fn usual() -> Settings {
-    Settings {
-        of_1059: 61,
-        of_1230: 28,
-        edition: 1,
+impl Settings {
+    // What holds as a rule: blocks start behind the header of their message.
+    pub fn usual() -> Settings {
+        Settings {
+            of_1059: System::Gps.behind_header(),
+            of_1230: System::Glonass.behind_header(),
+            edition: 1,
+        }
+    }
+
+    // Where the blocks of the system start.
+    pub fn start(self, system: System) -> usize {
+        match system {
+            System::Gps => self.of_1059,
+            System::Glonass => self.of_1230,
+        }
+    }
+
+    // What holds behind an argument.
+    pub fn behind(self, argument: Argument) -> Settings {
+        match argument {
+            Argument::Number(option, Some(number)) => self.with(option, number),
+            _ => self,
+        }
+    }
+
+    // What holds once an option sets its number.
+    fn with(self, option: Numbered, number: u32) -> Settings {
+        let bit = number as usize;
+        match option {
+            Numbered::Start => Settings {
+                of_1059: bit,
+                of_1230: bit,
+                ..self
+            },
+            Numbered::Start1059 => Settings {
+                of_1059: bit,
+                ..self
+            },
+            Numbered::Start1230 => Settings {
+                of_1230: bit,
+                ..self
+            },
+            Numbered::Edition => Settings {
+                edition: number,
+                ..self
+            },
+        }
     }
 }
 
-// The number of an option: a data bit or an edition.
+// The options behind which a number stands: a data bit, or an edition.
 #[derive(Clone, Copy)]
-pub enum Bit {
-    At(usize),
-    // No number that the option takes.
-    Wrong,
+pub enum Numbered {
+    Start,
+    Start1059,
+    Start1230,
+    Edition,
 }
 
-// What all the arguments ask for: `wrong` is the place of the first option that is not known or has no number, `rest` that
-// of `--`, and `file` that of a recording, or 0.
+impl Numbered {
+    fn of(word: &[u8]) -> Option<Numbered> {
+        match word {
+            b"--start" => Some(Numbered::Start),
+            b"--start-1059" => Some(Numbered::Start1059),
+            b"--start-1230" => Some(Numbered::Start1230),
+            b"--edition" => Some(Numbered::Edition),
+            _ => None,
+        }
+    }
+
+    // The number that the word names, if the option takes it. An edition is 1 or 2.
+    fn number(self, word: &[u8]) -> Option<u32> {
+        let number = number(word)?;
+        match self {
+            Numbered::Edition if !matches!(number, 1 | 2) => None,
+            _ => Some(number),
+        }
+    }
+}
+
+// What an argument is to this program.
+#[derive(Clone, Copy)]
+pub enum Argument {
+    // An option behind which its number is to stand.
+    Option(Numbered),
+    // What stands behind such an option, with the number that it is; none if the option does not take it.
+    Number(Numbered, Option<u32>),
+    // What it is to any program. The own option is --latest.
+    Other(Kind),
+}
+
+impl Argument {
+    // What argument i is, where `rest` is the place of `--`.
+    pub fn of(env: &impl Env, i: usize, rest: Option<usize>) -> Argument {
+        let word = Word::or_empty(env, i);
+        if asked::is_behind(i, rest) {
+            return Argument::Other(arguments::operand_of(word.bytes()));
+        }
+        if let Some(option) = option_before(env, i) {
+            return Argument::Number(option, option.number(word.bytes()));
+        }
+        match Numbered::of(word.bytes()) {
+            Some(option) => Argument::Option(option),
+            None => Argument::Other(arguments::kind_of(word.bytes(), b"--latest")),
+        }
+    }
+}
+
+// The option whose number argument i is. The first word is the program's name.
+fn option_before(env: &impl Env, i: usize) -> Option<Numbered> {
+    if i < 2 {
+        return None;
+    }
+    Numbered::of(Word::or_empty(env, i - 1).bytes())
+}
+
+// The number that the digits make, if it has at most six behind its zeros.
+fn number(digits: &[u8]) -> Option<u32> {
+    if !digits.iter().all(u8::is_ascii_digit) {
+        return None;
+    }
+    let number = str::from_utf8(digits).ok()?.parse::<u32>().ok()?;
+    if 999_999 < number {
+        return None;
+    }
+    Some(number)
+}
+
+// What is wrong with the arguments.
+#[derive(Clone, Copy)]
+pub enum Wrong {
+    // There is no such option as the argument at the place.
+    Unknown(usize),
+    // An option has no number behind it, or a word that it does not take.
+    Number,
+}
+
+impl Wrong {
+    // Says it.
+    pub fn say(self, env: &impl Env, program: &Program) -> Failure {
+        match self {
+            Wrong::Unknown(i) => program.unknown(env, i),
+            Wrong::Number => {
+                program.say(
+                    ": --start takes the number of a data bit, as --start 61, and --edition takes 1 or 2; rtcm_biases --help says more\n",
+                );
+                Failure::Refused
+            }
+        }
+    }
+}
+
+// What all the arguments ask for: `wrong` is the first thing that is wrong with them, `rest` the place of `--`, and
+// `settings` hold behind the last one.
 #[derive(Clone, Copy)]
 pub struct Asked {
     pub help: bool,
     pub version: bool,
-    pub wrong: usize,
-    pub rest: usize,
-    pub file: usize,
+    pub latest: bool,
+    pub names_file: bool,
+    pub wrong: Option<Wrong>,
+    pub rest: Option<usize>,
+    pub settings: Settings,
 }
 
-pub fn all(rt: &HostRuntime) -> Asked {
-    let mut help = false;
-    let mut version = false;
-    let mut wrong: usize = 0;
-    let mut rest: usize = 0;
-    let mut file: usize = 0;
-    for i in 1..arguments::count(rt) {
-        match asked_at(rt, i, rest) {
-            Kind::Help => {
-                help = true;
-            }
-            Kind::Version => {
-                version = true;
-            }
-            Kind::Rest => {
-                rest = i;
-            }
-            Kind::Unknown => {
-                wrong = first(wrong, i);
-            }
-            Kind::Own => {}
-            _ => {
-                file = i;
-            }
-        }
-    }
-    Asked {
-        help,
-        version,
-        wrong,
-        rest,
-        file,
-    }
-}
-
-// What argument i asks for. An own option that has no number behind it, and a word in the place of that number that is
-// none, are as an option that is not known; the number itself belongs to its option.
-fn asked_at(rt: &HostRuntime, i: usize, rest: usize) -> Kind {
-    if is_number(rt, i, rest) {
-        return match number_at(rt, i) {
-            Bit::At(_) => Kind::Own,
-            Bit::Wrong => Kind::Unknown,
-        };
-    }
-    if is_latest_at(rt, i, rest) {
-        return Kind::Own;
-    }
-    match kind_at(rt, i, rest) {
-        Kind::Own => with_number(rt, i),
-        other => other,
-    }
-}
-
-// Whether one of the arguments is --latest.
-pub fn is_latest(rt: &HostRuntime, rest: usize) -> bool {
-    for i in 1..arguments::count(rt) {
-        if is_latest_at(rt, i, rest) {
-            return true;
-        }
-    }
-    false
-}
-
-// Whether argument i is --latest, the option that has no number.
-fn is_latest_at(rt: &HostRuntime, i: usize, rest: usize) -> bool {
-    if is_behind(i, rest) {
-        return false;
-    }
-    if is_number(rt, i, rest) {
-        return false;
-    }
-    is_word(rt, i, b"--latest")
-}
-
-// An own option, if a word stands behind it.
-fn with_number(rt: &HostRuntime, i: usize) -> Kind {
-    let count = arguments::count(rt);
-    if count <= i {
-        return Kind::Unknown;
-    }
-    if count - i == 1 {
-        return Kind::Unknown;
-    }
-    Kind::Own
-}
-
-// The first of two places, of which 0 is none.
-fn first(a: usize, b: usize) -> usize {
-    if a == 0 { b } else { a }
-}
-
-// Whether argument i is the number of the own option before it.
-pub fn is_number(rt: &HostRuntime, i: usize, rest: usize) -> bool {
-    if i < 2 {
-        return false;
-    }
-    if is_behind(i, rest) {
-        return false;
-    }
-    match kind_at(rt, i - 1, rest) {
-        Kind::Own => true,
-        _ => false,
-    }
-}
-
-// Whether argument i stands behind `--`.
-fn is_behind(i: usize, rest: usize) -> bool {
-    if rest == 0 {
-        return false;
-    }
-    rest < i
-}
-
-// What argument i is. The program's own options are --start, --start-1059, --start-1230 and --edition.
-pub fn kind_at(rt: &HostRuntime, i: usize, rest: usize) -> Kind {
-    let mut word = [0u8; 4096];
-    let n = arguments::word(rt, i, &mut word);
-    if is_behind(i, rest) {
-        return arguments::operand_of(&word[..n]);
-    }
-    if same(&word[..n], b"--start-1059") {
-        return Kind::Own;
-    }
-    if same(&word[..n], b"--start-1230") {
-        return Kind::Own;
-    }
-    if same(&word[..n], b"--edition") {
-        return Kind::Own;
-    }
-    arguments::kind_of(&word[..n], b"--start")
-}
-
-// Whether argument i is the word.
-fn is_word(rt: &HostRuntime, i: usize, wanted: &[u8]) -> bool {
-    let mut word = [0u8; 4096];
-    let n = arguments::word(rt, i, &mut word);
-    same(&word[..n], wanted)
-}
-
-// What holds from argument i on, if it is the number of an own option.
-pub fn settings_at(rt: &HostRuntime, i: usize, rest: usize, settings: Settings) -> Settings {
-    if !is_number(rt, i, rest) {
-        return settings;
-    }
-    if i == 0 {
-        return settings;
-    }
-    let Bit::At(bit) = number_at(rt, i) else {
-        return settings;
+pub fn all(env: &impl Env) -> Asked {
+    let mut asked = Asked {
+        help: false,
+        version: false,
+        latest: false,
+        names_file: false,
+        wrong: None,
+        rest: None,
+        settings: Settings::usual(),
     };
-    if is_word(rt, i - 1, b"--edition") {
-        return Settings {
-            of_1059: settings.of_1059,
-            of_1230: settings.of_1230,
-            edition: edition_of(bit),
+    let count = arguments::count(env);
+    for i in 1..count {
+        let argument = Argument::of(env, i, asked.rest);
+        asked = match argument {
+            Argument::Option(_) if i + 1 == count => asked.but(Wrong::Number),
+            _ => asked.with(argument, i),
         };
     }
-    if is_word(rt, i - 1, b"--start-1059") {
-        return Settings {
-            of_1059: bit,
-            of_1230: settings.of_1230,
-            edition: settings.edition,
-        };
-    }
-    if is_word(rt, i - 1, b"--start-1230") {
-        return Settings {
-            of_1059: settings.of_1059,
-            of_1230: bit,
-            edition: settings.edition,
-        };
-    }
-    Settings {
-        of_1059: bit,
-        of_1230: bit,
-        edition: settings.edition,
-    }
+    asked
 }
 
-fn edition_of(number: usize) -> u32 {
-    if number == 2 { 2 } else { 1 }
-}
-
-// The number that argument i names. Behind --edition it is 1 or 2.
-fn number_at(rt: &HostRuntime, i: usize) -> Bit {
-    let mut word = [0u8; 4096];
-    let n = arguments::word(rt, i, &mut word);
-    if i == 0 {
-        return Bit::Wrong;
-    }
-    let Bit::At(number) = number(&word[..n]) else {
-        return Bit::Wrong;
-    };
-    if is_word(rt, i - 1, b"--edition") {
-        return edition(number);
-    }
-    Bit::At(number)
-}
-
-fn edition(number: usize) -> Bit {
-    if number == 1 {
-        return Bit::At(1);
-    }
-    if number == 2 {
-        return Bit::At(2);
-    }
-    Bit::Wrong
-}
-
-// The number that the digits make, if there are one to six.
-fn number(digits: &[u8]) -> Bit {
-    if digits.len() == 0 {
-        return Bit::Wrong;
-    }
-    let mut bit: usize = 0;
-    for &d in digits {
-        if d < b'0' {
-            return Bit::Wrong;
+impl Asked {
+    // What is asked for with argument i.
+    fn with(self, argument: Argument, i: usize) -> Asked {
+        match argument {
+            Argument::Option(_) => self,
+            Argument::Number(_, None) => self.but(Wrong::Number),
+            Argument::Number(_, Some(_)) => Asked {
+                settings: self.settings.behind(argument),
+                ..self
+            },
+            Argument::Other(kind) => self.with_kind(kind, i),
         }
-        if b'9' < d {
-            return Bit::Wrong;
+    }
+
+    fn with_kind(self, kind: Kind, i: usize) -> Asked {
+        match kind {
+            Kind::Help => Asked { help: true, ..self },
+            Kind::Version => Asked {
+                version: true,
+                ..self
+            },
+            Kind::Own => Asked {
+                latest: true,
+                ..self
+            },
+            Kind::Rest => Asked {
+                rest: Some(i),
+                ..self
+            },
+            Kind::Unknown => self.but(Wrong::Unknown(i)),
+            Kind::Input | Kind::File => Asked {
+                names_file: true,
+                ..self
+            },
         }
-        if 99_999 < bit {
-            return Bit::Wrong;
+    }
+
+    // What is asked for with something that is wrong.
+    fn but(self, wrong: Wrong) -> Asked {
+        Asked {
+            wrong: self.wrong.or(Some(wrong)),
+            ..self
         }
-        bit = bit * 10 + (d - b'0') as usize;
-    }
-    Bit::At(bit)
-}
-
-// Says what is wrong with argument i.
-pub fn say_wrong(rt: &HostRuntime, i: usize, rest: usize) {
-    if is_number(rt, i, rest) {
-        wrong_number(rt);
-        return;
-    }
-    match kind_at(rt, i, rest) {
-        Kind::Own => wrong_number(rt),
-        _ => arguments::unknown(rt, b"rtcm_biases", i),
     }
 }
 
-fn wrong_number(rt: &HostRuntime) {
-    printing::say(
-        rt,
-        b"rtcm_biases: --start takes the number of a data bit, as --start 61, and --edition takes 1 or 2; rtcm_biases --help says more\n",
-    );
-}
-
-pub fn help(rt: &HostRuntime) {
-    arguments::tell(
-        rt,
-        b"rtcm_biases",
-        b"rtcm_biases [--start N] [--start-1059 N] [--start-1230 N] [--edition N] [--latest] [--] FILE..
+pub const HELP: &str =
+    "rtcm_biases [--start N] [--start-1059 N] [--start-1230 N] [--edition N] [--latest] [--] FILE..
 
 Shows the biases in the RTCM 3 messages 1059 (GPS) and 1230 (GLONASS) of each file (- is standard
 input): a table for each message, with the raw numbers and the metres that they stand for, below
@@ -312,6 +269,4 @@ A signal number that is reserved stands in brackets. A table is shown when its f
 A block that leaves eight or more bits of its message unread is marked: it may start elsewhere.
 The exit status is always 0. If something failed, the last line on standard error is
 \"rtcm_biases: failed\".
-",
-    );
-}
+";

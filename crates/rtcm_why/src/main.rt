@@ -66,7 +66,10 @@ fn answer(
     };
     let mut recording = [0u8; 65536];
     let n = load::load(rt, program, file, rest, &mut recording)?;
-    show(program, fate::of(&recording[..n], place))
+    match fate::of(&recording[..n], place) {
+        Ok(fate) => show(program, fate),
+        Err(_) => Err(refused(program)),
+    }
 }
 
 // The number that the digits make; none if the word is no number. One of more than six digits lies past every recording, as
@@ -111,7 +114,6 @@ fn show(program: &Program, fate: Fate) -> Result<(), Failure> {
             );
             out.phrase("", length as u64, 0, " bytes to the end\n");
         }
-        Fate::Size => return Err(refused(program)),
     }
     out.flush()?;
     Ok(())

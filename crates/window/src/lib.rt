@@ -37,10 +37,8 @@ fn products(part: &[u8], weights: &[u32; 4096], out: &mut [u32])
     ensures { Products part.now out.old out.new }
 {
     let first = 4096 - part.len();
-    let mut k: usize = 0;
-    while k < part.len() {
-        out[k] = times(part[k] as u32, weights[first + k]);
-        k += 1;
+    for k in 0..part.len() {
+        out[k] = times(u32::from(part[k]), weights[first + k]);
     }
 }
 
@@ -49,11 +47,9 @@ fn add_up(part: &[u8], out: &mut [u32])
     requires { (length part.now < length out.old) × Multiplied part.now out.old }
     ensures { out.new ≡ onto (tails part.now) out.old }
 {
-    let mut k = part.len();
     let mut sum: u32 = 0;
-    out[k] = 0;
-    while 0 < k {
-        k -= 1;
+    out[part.len()] = 0;
+    for k in (0..part.len()).rev() {
         sum = sum ^ out[k];
         out[k] = low(sum);
     }
@@ -64,13 +60,12 @@ fn fill(part: &[u8], out: &mut [u32])
     requires { length part.now < length out.old }
     ensures { out.new ≡ onto (tails part.now) out.old }
 {
-    let mut k = part.len();
     let mut weight: u32 = 0x86_4CFB;
     let mut sum: u32 = 0;
-    out[k] = 0;
-    while 0 < k {
-        k -= 1;
-        sum = sum ^ times(part[k] as u32, weight);
+    out[part.len()] = 0;
+    for k in (0..part.len()).rev() {
+        let product = times(u32::from(part[k]), weight);
+        sum = sum ^ product;
         out[k] = low(sum);
         weight = low(weight << 8);
     }

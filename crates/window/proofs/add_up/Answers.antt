@@ -8,18 +8,6 @@ use Rattle.window.proofs.add_up.Goals as goal
 pub loop-k-init : goal.loop-k-init
 loop-k-init c = let a = c.args in adding_first a.part.now a.out.now c.requires.0 c.requires.1
 
-pub offset_bounds-out-k-in-loop-k : goal.offset_bounds-out-k-in-loop-k
-offset_bounds-out-k-in-loop-k c = record { fits = omega (arith, c.loop-k.invariant.place) }
-
-pub bounds-out-k-in-loop-k : goal.bounds-out-k-in-loop-k
-bounds-out-k-in-loop-k c = omega (arith, c.loop-k.invariant.place, c.loop-k.invariant.as_long, length-set c.args.out.now (length c.args.part.now) 0, c.requires.0)
-
-pub offset_bounds-out-k-in-loop-k-2 : goal.offset_bounds-out-k-in-loop-k-2
-offset_bounds-out-k-in-loop-k-2 c = record { fits = omega (arith, c.loop-k.invariant.place) }
-
-pub bounds-out-k-in-loop-k-2 : goal.bounds-out-k-in-loop-k-2
-bounds-out-k-in-loop-k-2 c = omega (arith, c.loop-k.invariant.place, c.loop-k.invariant.as_long, length-set c.args.out.now (length c.args.part.now) 0, c.requires.0)
-
 pub loop-k-preserved : goal.loop-k-preserved
 loop-k-preserved c =
     let a = c.args in

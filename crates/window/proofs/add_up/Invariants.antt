@@ -7,6 +7,3 @@ use Rattle.window.proofs.add_up.Given as goal
 
 abbrev pub invariant-loop-k : goal.invariant-loop-k
 invariant-loop-k l = Filling l.part l.initial.out l.out l.k (weight_at (length l.part - l.k)) l.sum
-
-abbrev pub decreases-loop-k : goal.decreases-loop-k
-decreases-loop-k l = l.k

@@ -4,6 +4,3 @@ use Rattle.window.proofs.fill.Given as goal
 
 abbrev pub invariant-loop-k : goal.invariant-loop-k
 invariant-loop-k l = Filling l.part l.initial.out l.out l.k l.weight l.sum
-
-abbrev pub decreases-loop-k : goal.decreases-loop-k
-decreases-loop-k l = l.k

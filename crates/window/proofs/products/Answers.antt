@@ -1,8 +1,7 @@
 -- The products of the first k bytes are stored. Assumes nothing.
-use mathlib.Core.Path.{sym, ap, ◌∙◌, subst}
+use mathlib.Core.Path.{sym, ap₂, ◌∙◌, subst}
 use Prim.Native.Nat.{ℕ, ◌^◌, ◌<◌}
 use native.Mathlib.Omega.{arith}
-use lib.ListN.{get_or}
 use Rattle.window.specs.Steps.{times}
 use Rattle.window.proofs.SumLaws.{weight_small, weight_of, taking_first, taking_more, taking_end}
 use Rattle.window.proofs.products.Goals as goal
@@ -10,26 +9,8 @@ use Rattle.window.proofs.products.Goals as goal
 pub loop-k-init : goal.loop-k-init
 loop-k-init c = let a = c.args in taking_first a.part.now a.out.now c.requires.1
 
-pub overflow_cast-part : goal.overflow_cast-part
-overflow_cast-part c = record { fits = omega (arith, (c.type_inv.part c.loop-k.k).fits) }
-
-pub overflow_add-first : goal.overflow_add-first
-overflow_add-first c = record { fits = omega (arith, c.requires.0) }
-
-pub offset_bounds-weights-first : goal.offset_bounds-weights-first
-offset_bounds-weights-first c = record { fits = omega (arith, c.requires.0) }
-
-pub bounds-weights-first : goal.bounds-weights-first
-bounds-weights-first c = omega (arith, c.requires.0)
-
 pub times-requires : goal.times-requires
 times-requires c = subst (λ (n : ℕ). n < 2 ^ 24) (sym (weight_of _ c.requires.2 _ _ c.requires.0 c.loop-k-test.true)) (weight_small _)
-
-pub offset_bounds-out-k : goal.offset_bounds-out-k
-offset_bounds-out-k c = record { fits = omega (arith, c.requires.0) }
-
-pub bounds-out-k : goal.bounds-out-k
-bounds-out-k c = omega (arith, c.loop-k.invariant.as_long, c.requires.1)
 
 pub loop-k-preserved : goal.loop-k-preserved
 loop-k-preserved c =
@@ -37,7 +18,7 @@ loop-k-preserved c =
     let l = c.loop-k in
     let h = c.loop-k-test.true in
     taking_more a.part.now a.out.now c.requires.1 l.out l.k _ h l.invariant
-    (c.times.ensures ∙ ap (times (get_or a.part.now l.k 0)) (weight_of _ c.requires.2 _ _ c.requires.0 h))
+    (c.times.ensures ∙ ap₂ times c.from.ensures (weight_of _ c.requires.2 _ _ c.requires.0 h))
 
 pub shape_of-out : goal.shape_of-out
 shape_of-out c = c.loop-k.invariant.as_long

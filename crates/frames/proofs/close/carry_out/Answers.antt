@@ -55,7 +55,7 @@ pub returns-in-Frame : goal.returns-in-Frame
 returns-in-Frame c =
     let a = c.args in
     let k = (subst (CanHold (length c.args.held.now) c.args.scanner.count 0) c.in-Frame.is c.requires.5) in
-    let none : c.in-Frame.field-2 ≡ 0 = omega (arith, k) in
+    let none : c.in-Frame.taken ≡ 0 = omega (arith, k) in
     let empty = none_taken (0 - 0) in
     moved_frame_lem a.held.now (known a.scanner) [] a.out.now c.in-Frame.i c.in-Frame.length 0 _ _ _ _ _ _ (omega arith) (omega (arith, empty)) refl c.kind_of.ensures c.onwards-in-Frame.ensures
     (c.shift-in-Frame.ensures ∙ slide_alone a.held.now [] a.scanner.count (c.in-Frame.i + c.in-Frame.length) (omega arith) (omega (arith, k))

@@ -22,7 +22,7 @@ loop-k-init c =
       record { leads = refl; inside = omega (arith, p.1.inside, l); counted = p.1.counted; each = p.1.each; most = p.1.most; starts = refl; lengths = refl },
       omega (arith, w.0, b.0),
       omega (arith, b.2),
-      begins_ready b.0 b.1 b.2 b.3 w.2 w.3 (omega (arith, l, p.1.inside)) p.2 p.3 p.4,
+      begins_ready b.0 b.1 b.2 b.3 w.2 w.3 (omega (arith, l, p.1.inside)) p.2 p.3,
       refl,
     )
 
@@ -73,7 +73,7 @@ pub pass_both-on-requires : goal.pass_both-on-requires
 pass_both-on-requires c =
     let p = c.requires in
     let w = c.judge-judged.ensures in
-    (p.5, omega arith, omega arith, omega (arith, p.0.held, p.0.piece), omega (arith, w.1), omega (arith, w.2), w.3)
+    (omega arith, omega arith, omega (arith, p.0.held, p.0.piece), omega (arith, w.1), omega (arith, w.2), w.3)
 
 pub loop-k-smaller-in-NotValid : goal.loop-k-smaller-in-NotValid
 loop-k-smaller-in-NotValid c = omega (arith, c.pass_both-on.ensures.on, c.next_start-j.ensures.from)

@@ -15,9 +15,9 @@ use Rattle.frames.proofs.list_many.list_by.Given as goal
 
 abbrev pub invariant-loop-k : goal.invariant-loop-k
 invariant-loop-k l =
-    Came (framing_of l.mode) (lawful l.mode) (starts_in l.mode) (mode_starts l.mode) (l.held ++ l.piece) l.room
-    (list_on (l.room - l.initial.k) l.initial.k l.initial.i l.initial.framed (scan (decide (framing_of l.mode)) (drop l.initial.i (l.held ++ l.piece))).items l.initial.starts l.initial.lengths) (length l.initial.starts) (length l.initial.lengths) l.k l.i l.framed l.starts l.lengths
-    × (l.at.base ≤ l.i) × (l.at.ubx_base ≤ l.i) × Ready l.mode (l.held ++ l.piece) l.sums l.runs l.at.base l.at.stop l.at.ubx_base l.at.ubx_stop × (length l.runs ≡ length l.initial.runs)
+    Came (framing_of 1) (lawful 1) (starts_in 1) (mode_starts 1) (l.held ++ l.piece) l.room
+    (list_on (l.room - l.initial.k) l.initial.k l.initial.i l.initial.framed (scan (decide (framing_of 1)) (drop l.initial.i (l.held ++ l.piece))).items l.initial.starts l.initial.lengths) (length l.initial.starts) (length l.initial.lengths) l.k l.i l.framed l.starts l.lengths
+    × (l.at.base ≤ l.i) × (l.at.ubx_base ≤ l.i) × Ready (l.held ++ l.piece) l.sums l.runs l.at.base l.at.stop l.at.ubx_base l.at.ubx_stop × (length l.runs ≡ length l.initial.runs)
 
 abbrev pub decreases-loop-k : goal.decreases-loop-k
 decreases-loop-k l = length l.held + length l.piece - l.i

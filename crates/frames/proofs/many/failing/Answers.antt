@@ -25,16 +25,16 @@ returns-then-piece-i c =
     let a = c.args in
     let p = c.requires in
     let b = sym (at_right a.held.now a.piece.now a.i p.0) ∙ c.if-piece-i.true in
-    IfSome_then {X = ℕ} c.ubx_failing.result {P = λ n. NotValid n ≡ candidate ubx (drop a.i (a.held.now ++ a.piece.now))} {Q = λ n. NotValid n ≡ candidate (framing_of a.mode) (drop a.i (a.held.now ++ a.piece.now))} c.ubx_failing.ensures (λ n f. f ∙ at_b5 a.mode _ (b5_both a.mode _ b p.3) (first_is (a.held.now ++ a.piece.now) a.i ∙ b))
+    IfSome_then {X = ℕ} c.ubx_failing.result {P = λ n. NotValid n ≡ candidate ubx (drop a.i (a.held.now ++ a.piece.now))} {Q = λ n. NotValid n ≡ candidate (framing_of 1) (drop a.i (a.held.now ++ a.piece.now))} c.ubx_failing.ensures (λ n f. f ∙ at_b5 1 _ (b5_both 1 _ b p.3) (first_is (a.held.now ++ a.piece.now) a.i ∙ b))
 
 pub rtcm_failing-requires : goal.rtcm_failing-requires
 rtcm_failing-requires c =
     let a = c.args in
     let p = c.requires in
-    (p.0, p.1, p.2, other_d3 a.mode (get_or (a.held.now ++ a.piece.now) a.i 0) (λ q. c.if-piece-i.false (at_right a.held.now a.piece.now a.i p.0 ∙ q)) p.3, p.4, p.6.tails)
+    (p.0, p.1, p.2, other_d3 1 (get_or (a.held.now ++ a.piece.now) a.i 0) (λ q. c.if-piece-i.false (at_right a.held.now a.piece.now a.i p.0 ∙ q)) p.3, p.4, p.6.tails)
 
 pub returns : goal.returns
 returns c =
     let a = c.args in
     let p = c.requires in
-    IfSome_then {X = ℕ} c.rtcm_failing.result {P = λ n. NotValid n ≡ candidate rtcm (drop a.i (a.held.now ++ a.piece.now))} {Q = λ n. NotValid n ≡ candidate (framing_of a.mode) (drop a.i (a.held.now ++ a.piece.now))} c.rtcm_failing.ensures (λ n f. f ∙ at_other a.mode _ (λ q. c.if-piece-i.false (at_right a.held.now a.piece.now a.i p.0 ∙ sym (first_is (a.held.now ++ a.piece.now) a.i) ∙ q)))
+    IfSome_then {X = ℕ} c.rtcm_failing.result {P = λ n. NotValid n ≡ candidate rtcm (drop a.i (a.held.now ++ a.piece.now))} {Q = λ n. NotValid n ≡ candidate (framing_of 1) (drop a.i (a.held.now ++ a.piece.now))} c.rtcm_failing.ensures (λ n f. f ∙ at_other 1 _ (λ q. c.if-piece-i.false (at_right a.held.now a.piece.now a.i p.0 ∙ sym (first_is (a.held.now ++ a.piece.now) a.i) ∙ q)))

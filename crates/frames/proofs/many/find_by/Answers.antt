@@ -21,7 +21,7 @@ loop-i-init c =
       record { behind = p.1; reached = p.0 },
       omega (arith, w.0, b.0),
       omega (arith, b.2),
-      begins_ready b.0 b.1 b.2 b.3 w.2 w.3 (omega (arith, l, p.0.0, p.0.1, p.1)) p.3 p.4 p.5,
+      begins_ready b.0 b.1 b.2 b.3 w.2 w.3 (omega (arith, l, p.0.0, p.0.1, p.1)) p.3 p.4,
       refl,
     )
 
@@ -74,7 +74,7 @@ pass_both-on-requires c =
     let p = c.requires in
     let w = c.judge-judged.ensures in
     let g = subst (Came _ _ _ _ _ _ _) (sym c.max-taken.ensures) (passed _ _ _ _ _ _ _ _ c.loop-i.invariant.0 _ c.next_start-j.ensures _ (sym c.in-NotValid.is ∙ w.0)) in
-    (p.6, omega arith, g.behind, p.2, less_again _ _ w.1, less_again _ _ w.2, w.3)
+    (omega arith, g.behind, p.2, less_again _ _ w.1, less_again _ _ w.2, w.3)
 
 pub loop-i-smaller : goal.loop-i-smaller
 loop-i-smaller c = omega (arith, c.pass_both-on.ensures.on, c.next_start-j.ensures.from, c.loop-i-test.true)

@@ -12,7 +12,7 @@ use Rattle.frames.proofs.many.find_by.Given as goal
 
 abbrev pub invariant-loop-i : goal.invariant-loop-i
 invariant-loop-i l =
-    Came (framing_of l.mode) (lawful l.mode) (starts_in l.mode) (mode_starts l.mode) l.held l.piece l.i l.end × (l.at.base ≤ l.i) × (l.at.ubx_base ≤ l.i) × Ready l.mode (l.held ++ l.piece) l.sums l.runs l.at.base l.at.stop l.at.ubx_base l.at.ubx_stop × (length l.runs ≡ length l.initial.runs)
+    Came (framing_of 1) (lawful 1) (starts_in 1) (mode_starts 1) l.held l.piece l.i l.end × (l.at.base ≤ l.i) × (l.at.ubx_base ≤ l.i) × Ready (l.held ++ l.piece) l.sums l.runs l.at.base l.at.stop l.at.ubx_base l.at.ubx_stop × (length l.runs ≡ length l.initial.runs)
 
 abbrev pub decreases-loop-i : goal.decreases-loop-i
 decreases-loop-i l = length l.held + length l.piece - l.i

@@ -6,7 +6,7 @@ use Rattle.frames.specs.Steps.{Passes}
 use Rattle.frames.proofs.many.pass_both.Given as goal
 
 abbrev pub invariant-loop-i : goal.invariant-loop-i
-invariant-loop-i l = Passes (framing_of l.mode) l.held l.piece l.from l.first l.i l.end
+invariant-loop-i l = Passes (framing_of 1) l.held l.piece l.from l.first l.i l.end
 
 abbrev pub decreases-loop-i : goal.decreases-loop-i
 decreases-loop-i l = length l.held + length l.piece - l.i

@@ -1,23 +1,20 @@
--- Looking for a row of a table; and the systems and editions that have no table. Assumes nothing.
+-- Looking for a row of a table, the systems that have no table, and the editions that there are. Assumes nothing.
 use mathlib.Core.Path.{◌≡◌, refl}
 use mathlib.Core.Bool.{Bool, true, false, cond, ◌&&◌}
 use mathlib.Core.List.{List, [], ◌∷◌}
-use Prim.Native.Nat.{ℕ, zero, suc, ◌≤◌}
+use Prim.Native.Nat.{ℕ, ◌≤◌}
 use native.Mathlib.Omega.{arith}
 use lib.ListN.{get_or-eq_default}
 use lib.Dec.{eqb}
-use Rattle.std.specs.Prelude.{Some, option_map, Result, Ok, Err, is_ok}
+use Rattle.std.specs.Prelude.{Some, option_map}
 use Rattle.std.specs.List.{find}
-use Rattle.bits.specs.Told.{Told, Accepted, kind, and_then}
-use Rattle.bits.specs.Refusals.{told}
-use Rattle.bits.specs.declared.refusal.Refusal.{Refusal}
+use Rattle.bits.specs.Told.{Told, Accepted, Refused, kind, and_then}
 use Rattle.messages.specs.Signals.{Signal, sig, Found, At, signal_of, number_of, tables, table_of}
 use Rattle.messages.specs.Signals1059.{is_edition, signals1059, named_signal1059, named_number1059}
-use Rattle.messages.specs.StepsColumns.{entries, signal_at, has_number, has_signal, signal_in, number_in}
-use Rattle.messages.specs.StepsEdition.{edition_of, numbered, IsEdition}
+use Rattle.messages.specs.StepsTable.{entries, signal_at, has_number, has_signal, signal_in, number_in}
+use Rattle.messages.specs.StepsEdition.{numbered}
 use Rattle.messages.specs.Answers.{found_signal, found_number}
 use Rattle.messages.specs.declared.signals.Row.{Row}
-use Rattle.messages.specs.declared.signals1059.Edition.{Edition}
 
 -- ---- row by row
 
@@ -43,7 +40,7 @@ number_by_row (r ∷ rows) b l = go (eqb r.1 b && eqb r.2 l) (number_by_row rows
     go true e = refl
     go false e = e
 
--- ---- systems and editions that have no table
+-- ---- systems that have no table
 
 from_four : (s : ℕ) → (s ≡ 0 → ⊥) → (s ≡ 1 → ⊥) → (s ≡ 2 → ⊥) → (s ≡ 3 → ⊥) → 4 ≤ s
 from_four s a b c d = omega arith
@@ -55,14 +52,6 @@ from_seven s h e f g = omega arith
 pub no_table : (s : ℕ) → (s ≡ 0 → ⊥) → (s ≡ 1 → ⊥) → (s ≡ 2 → ⊥) → (s ≡ 3 → ⊥) → (s ≡ 4 → ⊥) → (s ≡ 5 → ⊥) → (s ≡ 6 → ⊥) → table_of s ≡ []
 unfolding table_of
 no_table s a b c d e f g = get_or-eq_default tables [] (from_seven s (from_four s a b c d) e f g)
-
--- any other edition has an empty table
-pub no_edition : (edition : ℕ) → (edition ≡ 1 → ⊥) → (edition ≡ 2 → ⊥) → signals1059 edition ≡ []
-unfolding signals1059
-no_edition zero g h = refl
-no_edition (suc zero) g h = absurd (g refl)
-no_edition (suc (suc zero)) g h = absurd (h refl)
-no_edition (suc (suc (suc e))) g h = refl
 
 -- ---- by edition
 
@@ -90,12 +79,18 @@ module _ (e : ℕ) where
       go true = refl
       go false = refl
 
-  -- there is an edition where it is found
-  pub edition_found : (r : Result Edition Refusal) → IsEdition e r → is_ok r ≡ is_edition e
-  edition_found r h = go r (is_edition e) h
+  -- there is no such edition where it is refused, and with Kind
+  pub edition_refused : {m : ℕ} {carried : List ℕ} → ◌≡◌ {A = Told ℕ} (Refused m carried) (numbered e) → (is_edition e ≡ false) × ◌≡◌ {A = Told ℕ} (Refused m carried) kind
+  edition_refused {m} {carried} h = go (is_edition e) refl h
     where
-      go : (r : Result Edition Refusal) (q : Bool) → told edition_of r ≡ cond q (Accepted e) kind → is_ok r ≡ q
-      go (Ok x) true h = refl
-      go (Ok x) false h = let z : ◌≡◌ {A = ℕ} 0 1 = cc in absurd (omega arith)
-      go (Err x) true h = let z : ◌≡◌ {A = ℕ} 0 1 = cc in absurd (omega arith)
-      go (Err x) false h = refl
+      go : (q : Bool) → is_edition e ≡ q → ◌≡◌ {A = Told ℕ} (Refused m carried) (cond q (Accepted e) kind) → (is_edition e ≡ false) × ◌≡◌ {A = Told ℕ} (Refused m carried) kind
+      go true f h = let z : ◌≡◌ {A = ℕ} 0 1 = cc in absurd (omega arith)
+      go false f h = (f, h)
+
+  -- and where it is accepted it is the one with this number
+  pub edition_known : {n : ℕ} → Accepted n ≡ numbered e → (is_edition e ≡ true) × (n ≡ e)
+  edition_known {n} h = go (is_edition e) refl h
+    where
+      go : (q : Bool) → is_edition e ≡ q → Accepted n ≡ cond q (Accepted e) kind → (is_edition e ≡ true) × (n ≡ e)
+      go true f h = (f, cc)
+      go false f h = let z : ◌≡◌ {A = ℕ} 0 1 = cc in absurd (omega arith)
