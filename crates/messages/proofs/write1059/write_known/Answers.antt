@@ -32,17 +32,17 @@ returns-in_err-first_fault c =
     ∙ some_fault a.edition a.bytes.now a.start a.satellites.now a.signals.now a.biases.now c.if-bytes-gt1023.false c.if-n-signals.false c.if-n-biases.false c.if-n-gt1953.false
     (first_fault_is a.edition _ _ _ c.mask_1059.ensures c.in_err-first_fault.ensures)
 
-pub write_faultless-requires : goal.write_faultless-requires
-write_faultless-requires c =
-    let a = c.args in (
-      c.if-bytes-gt1023.false,
-      sound a.edition a.satellites.now a.signals.now a.biases.now c.if-n-signals.false c.if-n-biases.false c.if-n-gt1953.false
-          (first_fault_is a.edition _ _ _ c.mask_1059.ensures c.in_ok-first_fault.ensures),
-    )
+pub invariant_of-records : goal.invariant_of-records
+invariant_of-records c =
+    let a = c.args in
+    record {
+      faultless = sound a.edition a.satellites.now a.signals.now a.biases.now c.if-n-signals.false c.if-n-biases.false c.if-n-gt1953.false
+          (first_fault_is a.edition _ _ _ c.mask_1059.ensures c.in_ok-first_fault.ensures);
+    }
 
 pub returns : goal.returns
 returns c =
     let a = c.args in
-    c.write_faultless.ensures
+    c.write.ensures
     ∙ no_fault a.edition a.bytes.now a.start a.satellites.now a.signals.now a.biases.now c.if-bytes-gt1023.false c.if-n-signals.false c.if-n-biases.false c.if-n-gt1953.false
     (first_fault_is a.edition _ _ _ c.mask_1059.ensures c.in_ok-first_fault.ensures)

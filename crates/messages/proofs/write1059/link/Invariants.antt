@@ -1,6 +1,0 @@
--- `messages::write1059::link` meets its contract. The loop's invariant: the places from `i` on are linked. Assumes nothing.
-use Rattle.messages.specs.StepsWrite1059.{Linked}
-use Rattle.messages.proofs.write1059.link.Given as goal
-
-abbrev pub invariant-loop-i : goal.invariant-loop-i
-invariant-loop-i l = Linked l.satellites l.heads l.links l.counts l.i
