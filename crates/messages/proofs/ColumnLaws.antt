@@ -6,18 +6,15 @@ use Prim.Native.Nat.{ℕ, zero, suc, ◌≤◌}
 use native.Mathlib.Omega.{arith}
 use lib.ListN.{get_or-eq_default}
 use lib.Dec.{eqb}
-use Rattle.std.specs.Prelude.{Some, option_map, Result, Ok, Err, is_ok}
+use Rattle.std.specs.Prelude.{Some, option_map}
 use Rattle.std.specs.List.{find}
-use Rattle.bits.specs.Told.{Told, Accepted, kind, and_then}
-use Rattle.bits.specs.Refusals.{told}
-use Rattle.bits.specs.declared.refusal.Refusal.{Refusal}
+use Rattle.bits.specs.Told.{Told, Accepted, Refused, kind, and_then}
 use Rattle.messages.specs.Signals.{Signal, sig, Found, At, signal_of, number_of, tables, table_of}
 use Rattle.messages.specs.Signals1059.{is_edition, signals1059, named_signal1059, named_number1059}
 use Rattle.messages.specs.StepsColumns.{entries, signal_at, has_number, has_signal, signal_in, number_in}
-use Rattle.messages.specs.StepsEdition.{edition_of, numbered, IsEdition}
+use Rattle.messages.specs.StepsEdition.{numbered}
 use Rattle.messages.specs.Answers.{found_signal, found_number}
 use Rattle.messages.specs.declared.signals.Row.{Row}
-use Rattle.messages.specs.declared.signals1059.Edition.{Edition}
 
 -- ---- row by row
 
@@ -90,12 +87,18 @@ module _ (e : ℕ) where
       go true = refl
       go false = refl
 
-  -- there is an edition where it is found
-  pub edition_found : (r : Result Edition Refusal) → IsEdition e r → is_ok r ≡ is_edition e
-  edition_found r h = go r (is_edition e) h
+  -- there is no such edition where it is refused, and with Kind
+  pub edition_refused : {m : ℕ} {carried : List ℕ} → ◌≡◌ {A = Told ℕ} (Refused m carried) (numbered e) → (is_edition e ≡ false) × ◌≡◌ {A = Told ℕ} (Refused m carried) kind
+  edition_refused {m} {carried} h = go (is_edition e) refl h
     where
-      go : (r : Result Edition Refusal) (q : Bool) → told edition_of r ≡ cond q (Accepted e) kind → is_ok r ≡ q
-      go (Ok x) true h = refl
-      go (Ok x) false h = let z : ◌≡◌ {A = ℕ} 0 1 = cc in absurd (omega arith)
-      go (Err x) true h = let z : ◌≡◌ {A = ℕ} 0 1 = cc in absurd (omega arith)
-      go (Err x) false h = refl
+      go : (q : Bool) → is_edition e ≡ q → ◌≡◌ {A = Told ℕ} (Refused m carried) (cond q (Accepted e) kind) → (is_edition e ≡ false) × ◌≡◌ {A = Told ℕ} (Refused m carried) kind
+      go true f h = let z : ◌≡◌ {A = ℕ} 0 1 = cc in absurd (omega arith)
+      go false f h = (f, h)
+
+  -- and where it is accepted it is the one with this number
+  pub edition_known : {n : ℕ} → Accepted n ≡ numbered e → (is_edition e ≡ true) × (n ≡ e)
+  edition_known {n} h = go (is_edition e) refl h
+    where
+      go : (q : Bool) → is_edition e ≡ q → Accepted n ≡ cond q (Accepted e) kind → (is_edition e ≡ true) × (n ≡ e)
+      go true f h = (f, cc)
+      go false f h = let z : ◌≡◌ {A = ℕ} 0 1 = cc in absurd (omega arith)

@@ -1,7 +1,7 @@
 // The signals of message 1059 (DF380), by edition of their table: 1 or 2. Any other edition is refused with Kind.
 ghost use Rattle.std.specs.Prelude.{◌≡◌, true, cond, ℕ, ◌<◌, eqb};
 ghost use Rattle.messages.specs.Signals.{sig};
-ghost use Rattle.messages.specs.Signals1059.{is_edition, signals1059, named_signal1059, named_number1059};
+ghost use Rattle.messages.specs.Signals1059.{signals1059, named_signal1059, named_number1059};
 ghost use Rattle.messages.specs.Answers.{told_signal, told_number};
 ghost use Rattle.messages.specs.StepsColumns.{entries, mask_of, in_mask};
 ghost use Rattle.messages.specs.StepsEdition.{edition_of, IsEdition};
@@ -80,6 +80,16 @@ impl Edition {
             Edition::Second => &EDITION_2,
         }
     }
+
+    // The numbers of its table as the bits of one number, for a loop that asks of many records.
+    pub(crate) fn mask(self) -> u32
+        ensures { result ≡ mask_of (signals1059 (edition_of self)) }
+    {
+        match self {
+            Edition::First => MASK_1,
+            Edition::Second => MASK_2,
+        }
+    }
 }
 
 // The signal that `number` stands for in the edition's table.
@@ -96,24 +106,6 @@ pub fn number_of_1059(edition: u32, band: u32, letter: u32) -> Result<Option<u8>
 {
     let edition = Edition::try_from(edition)?;
     Ok(number_in(edition.rows(), band, letter))
-}
-
-// Whether there is such an edition.
-pub(crate) fn is_edition(edition: u32) -> bool
-    ensures { result ≡ is_edition edition }
-{
-    Edition::try_from(edition).is_ok()
-}
-
-// The numbers of the edition as the bits of one number, for a loop that asks of many records.
-pub(crate) fn mask_1059(edition: u32) -> u32
-    ensures { result ≡ mask_of (signals1059 edition) }
-{
-    match edition {
-        1 => MASK_1,
-        2 => MASK_2,
-        _ => 0,
-    }
 }
 
 // Whether bit `number` of the mask is set.
