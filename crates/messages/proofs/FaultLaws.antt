@@ -14,7 +14,7 @@ use Rattle.bits.specs.Signed.{fits_twos}
 use Rattle.formats.specs.Written.{fine, first_fault}
 use Rattle.messages.specs.Every.{Every}
 use Rattle.messages.specs.Signals1059.{signals1059}
-use Rattle.messages.specs.StepsColumns.{mask_of, in_mask}
+use Rattle.messages.specs.StepsTable.{mask_of, in_mask}
 use Rattle.messages.specs.Records.{Rec1059, rec1059, records1059}
 use Rattle.messages.specs.Write1059.{fault1059}
 use Rattle.messages.specs.StepsWrite1059.{fault_by, Faultless}

@@ -1,7 +1,7 @@
 pub mod TestLaws
 pub mod UndoLaws
 pub mod OrderLaws
-pub mod ColumnLaws
+pub mod RowLaws
 pub mod Signals1059Laws
 pub mod NamedLaws
 pub mod MetresLaws

@@ -16,7 +16,7 @@ use lib.IntN.{ℤ, pos}
 use Rattle.bits.specs.Told.{duplicate}
 use Rattle.formats.specs.Written.{fine}
 use Rattle.messages.specs.Records.{Rec1059, rec1059, records1059}
-use Rattle.messages.specs.StepsColumns.{in_mask}
+use Rattle.messages.specs.StepsTable.{in_mask}
 use Rattle.messages.specs.Writer.{is_among, first_repeat}
 use Rattle.messages.specs.Write1059.{same_pair}
 use Rattle.messages.proofs.TestLaws.{below, below_place}

@@ -9,7 +9,7 @@ use borrow.Author.Tests.{ltb-true, ltb-false, le-ltb, ne_eqb}
 use lib.Dec.{T, ltb, ltb→lt}
 use Rattle.messages.specs.Signals.{Entry, entry, is_at, signal_of}
 use Rattle.messages.specs.Signals1059.{edition1, edition2, editions, signals1059, is_signal1059}
-use Rattle.messages.specs.StepsColumns.{mask_of, in_mask}
+use Rattle.messages.specs.StepsTable.{mask_of, in_mask}
 use Rattle.messages.proofs.TestLaws.{left, right, all, all_place, below, below_place}
 
 -- a table's numbers are below 32

@@ -10,7 +10,7 @@ use Rattle.bits.specs.Onto.{onto}
 use Rattle.bits.specs.Told.{Told, Accepted}
 use Rattle.bits.specs.Field.{Reading, reading}
 use Rattle.bits.proofs.OntoLaws.{over_zero}
-use Rattle.messages.specs.Records.{Rec1059, satellite_of, signal_of1059, bias_of1059, Rec1230, signal_of1230, bias_of1230, Counted, counted}
+use Rattle.messages.specs.Records.{Rec1059, satellite_of, signal_of1059, bias_of1059, Rec1230, signal_of1230, bias_of1230, counted}
 use Rattle.messages.specs.StepsRead.{Lists1059, lists1059, put1059, Lists1230, lists1230, put1230, counts, records_in, Suffices, Stored, many}
 use Rattle.messages.proofs.PassLaws.{chain, counts_none, counts_on, suffices_on, suffices_first, stored_on, many_left, many_none}
 

@@ -19,7 +19,7 @@ pub mod Satellites1059
 pub mod I16
 pub mod StepsPen
 pub mod StepsFault
-pub mod StepsColumns
+pub mod StepsTable
 pub mod StepsEdition
 pub mod StepsRead
 pub mod StepsRead1059

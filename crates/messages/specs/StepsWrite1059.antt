@@ -6,7 +6,7 @@ use Rattle.bits.specs.Fields.{Field}
 use Rattle.bits.specs.Outcome.{Outcome}
 use Rattle.formats.specs.Format.{fields_each}
 use Rattle.formats.specs.Written.{fine}
-use Rattle.messages.specs.StepsColumns.{in_mask}
+use Rattle.messages.specs.StepsTable.{in_mask}
 use Rattle.messages.specs.Writer.{first_repeat, write_run}
 use Rattle.messages.specs.Layout1059.{bias1059, satellite1059, bias_of, with_some, grouped_from}
 use Rattle.messages.specs.Records.{Rec1059, rec1059, records1059}

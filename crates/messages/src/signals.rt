@@ -6,7 +6,7 @@ ghost use Rattle.std.specs.List.{find};
 ghost use Rattle.messages.specs.Signals.{sig, table_of, signal_of, number_of};
 ghost use Rattle.messages.specs.SignalOrder.{order};
 ghost use Rattle.messages.specs.Answers.{found_signal, found_number, told_order};
-ghost use Rattle.messages.specs.StepsColumns.{entries, has_number, has_signal, signal_in, number_in};
+ghost use Rattle.messages.specs.StepsTable.{entries, has_number, has_signal, signal_in, number_in};
 
 use std::cmp::Ordering;
 

@@ -3,7 +3,7 @@ ghost use Rattle.std.specs.Prelude.{◌≡◌, true, cond, ℕ, ◌<◌, eqb};
 ghost use Rattle.messages.specs.Signals.{sig};
 ghost use Rattle.messages.specs.Signals1059.{signals1059, named_signal1059, named_number1059};
 ghost use Rattle.messages.specs.Answers.{told_signal, told_number};
-ghost use Rattle.messages.specs.StepsColumns.{entries, mask_of, in_mask};
+ghost use Rattle.messages.specs.StepsTable.{entries, mask_of, in_mask};
 ghost use Rattle.messages.specs.StepsEdition.{edition_of, IsEdition};
 
 use crate::signals::{Row, Signal, number_in, signal_in};

@@ -2,7 +2,7 @@
 use mathlib.Core.Path.{◌∙◌, ap}
 use Rattle.messages.specs.Signals.{sig, number_of}
 use Rattle.messages.specs.Answers.{found_number}
-use Rattle.messages.proofs.ColumnLaws.{number_by_row}
+use Rattle.messages.proofs.RowLaws.{number_by_row}
 use Rattle.messages.proofs.signals.number_of.Goals as goal
 
 pub returns : goal.returns

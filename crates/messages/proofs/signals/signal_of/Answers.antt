@@ -2,7 +2,7 @@
 use mathlib.Core.Path.{◌∙◌, ap}
 use Rattle.messages.specs.Signals.{signal_of}
 use Rattle.messages.specs.Answers.{found_signal}
-use Rattle.messages.proofs.ColumnLaws.{signal_by_row}
+use Rattle.messages.proofs.RowLaws.{signal_by_row}
 use Rattle.messages.proofs.signals.signal_of.Goals as goal
 
 pub returns : goal.returns

@@ -1,6 +1,6 @@
 -- Each system has its own table, and any other number none. Assumes nothing.
 use Rattle.messages.specs.Signals.{gps, glo, gal, sbas, qzss, bds, navic, table_of}
-use Rattle.messages.proofs.ColumnLaws.{no_table}
+use Rattle.messages.proofs.RowLaws.{no_table}
 use Rattle.messages.proofs.signals.table.Goals as goal
 
 pub returns-in-0 : goal.returns-in-0

@@ -4,7 +4,7 @@ use Rattle.bits.specs.Told.{Accepted, and_then}
 use Rattle.bits.proofs.RefusalLaws.{passed_on}
 use Rattle.messages.specs.Signals.{sig, number_of}
 use Rattle.messages.specs.Answers.{found_number}
-use Rattle.messages.proofs.ColumnLaws.{number_by_row, number_named, number_by_edition}
+use Rattle.messages.proofs.RowLaws.{number_by_row, number_named, number_by_edition}
 use Rattle.messages.proofs.signals1059.number_of_1059.Goals as goal
 
 pub returns-in_err-edition : goal.returns-in_err-edition

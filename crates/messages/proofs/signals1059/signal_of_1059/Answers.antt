@@ -4,7 +4,7 @@ use Rattle.bits.specs.Told.{Accepted, and_then}
 use Rattle.bits.proofs.RefusalLaws.{passed_on}
 use Rattle.messages.specs.Signals.{signal_of}
 use Rattle.messages.specs.Answers.{found_signal}
-use Rattle.messages.proofs.ColumnLaws.{signal_by_row, signal_named, signal_by_edition}
+use Rattle.messages.proofs.RowLaws.{signal_by_row, signal_named, signal_by_edition}
 use Rattle.messages.proofs.signals1059.signal_of_1059.Goals as goal
 
 pub returns-in_err-edition : goal.returns-in_err-edition

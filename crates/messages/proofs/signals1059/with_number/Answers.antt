@@ -5,7 +5,7 @@ use native.Mathlib.Nat.{one-mul}
 use native.Mathlib.Omega.{arith}
 use lib.Bits.{bit_or}
 use lib.Pow.{shl_exact}
-use Rattle.messages.specs.StepsColumns.{in_mask}
+use Rattle.messages.specs.StepsTable.{in_mask}
 use Rattle.messages.proofs.PairLaws.{one_more_bit}
 use Rattle.messages.proofs.signals1059.with_number.Goals as goal
 

@@ -1,11 +1,11 @@
 -- `messages::write1059::write` meets its contract: Kind of an edition that there is not, else the call of a known edition. Assumes nothing.
-use mathlib.Core.Path.{◌∙◌, sym, ap}
+use mathlib.Core.Path.{◌∙◌, ap}
 use Prim.Native.Nat.{ℕ}
 use Rattle.bits.specs.Told.{Told}
 use Rattle.bits.specs.Outcome.{outcome}
 use Rattle.bits.proofs.RefusalLaws.{passed_on_with}
 use Rattle.messages.specs.StepsWrite1059.{write_known}
-use Rattle.messages.proofs.ColumnLaws.{edition_refused, edition_known}
+use Rattle.messages.proofs.RowLaws.{edition_refused, edition_known}
 use Rattle.messages.proofs.Write1059Laws.{no_edition, an_edition}
 use Rattle.messages.proofs.write1059.write.Goals as goal
 

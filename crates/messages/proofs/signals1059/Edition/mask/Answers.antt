@@ -1,6 +1,6 @@
 -- The constant of each edition is the mask of its table. Assumes nothing.
 use Rattle.messages.specs.Signals1059.{edition1, edition2, signals1059}
-use Rattle.messages.specs.StepsColumns.{mask_of}
+use Rattle.messages.specs.StepsTable.{mask_of}
 use Rattle.messages.proofs.signals1059.Edition.mask.Goals as goal
 
 pub returns-in-First : goal.returns-in-First
