@@ -56,7 +56,8 @@ fn read_satellites(
     Ok(store(bytes, at, n, satellites, signals, biases))
 }
 
-// ---- the first pass: how many records there are, and where they end
+// ---- the first pass: how many records there are, and where they end. It is no walk with the second in one: it reads no bias,
+// since each has 19 bits, and a walk over both would read each bias twice.
 
 // The n satellites from bit `start` on.
 fn measure(bytes: &[u8], start: usize, n: usize) -> Result<Records, Refusal>
@@ -104,7 +105,8 @@ fn measure_biases(bytes: &[u8], start: usize, n: usize, i: usize) -> Result<Reco
     unreachable!()
 }
 
-// ---- the second pass: the records, into lists that have room for them
+// ---- the second pass: the records, into lists that have room for them. Nothing can refuse here any more. The three lists go on
+// one by one, as C lends them.
 
 // The n satellites from bit `start` on.
 fn store(

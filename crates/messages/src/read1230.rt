@@ -56,7 +56,7 @@ pub fn read(
     Ok(Records { count, end })
 }
 
-// The refusal of a field that ends behind the `all` bits of the data: it lacks what lies behind them, which is all of it
+// As `cut` of bits, which is private there: the refusal of a field that ends behind the `all` bits of the data: it lacks what lies behind them, which is all of it
 // where it starts there.
 fn short(all: usize, start: usize, width: usize) -> Refusal
     requires { all < start + width }
