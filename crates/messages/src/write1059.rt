@@ -75,13 +75,16 @@ fn first_fault(mask: u32, satellites: &[u8], signals: &[u8], biases: &[i16]) -> 
     ensures { told_fault result ≡ first_fault (fault_by mask) 0 (records1059 satellites.now signals.now biases.now) }
 {
     for (i, satellite) in satellites.iter().enumerate() {
+        // Both before the tests: in this form many records are looked at by one instruction.
+        let known = in_mask(mask, signals[i]);
+        let fits = fits_bias(biases[i]);
         if 63 < *satellite {
             return Err(Refusal::Satellite(i));
         }
-        if !in_mask(mask, signals[i]) {
+        if !known {
             return Err(Refusal::Signal(i));
         }
-        if !fits_bias(biases[i]) {
+        if !fits {
             return Err(Refusal::Range(i));
         }
     }
@@ -182,7 +185,9 @@ impl<'a> Records1059<'a> {
 }
 
 // The records of each satellite, linked: `heads` has the index of its first record, `counts` how many it has, and `links`
-// of each record the index of the next one. The number of records stands for none.
+// of each record the index of the next one. The number of records stands for none: an Option would have twice the room,
+// which every call clears.
+// That they are linked is said in the contracts: a struct that says so itself is made whole, and would then be moved, 4 KB.
 #[derive(Drop)]
 struct Chains {
     heads: [u16; 64],

@@ -84,11 +84,16 @@ fn first_repeat(signals: &[u8]) -> Result<(), Refusal>
     Ok(())
 }
 
-// Whether the signal is in the list.
+// Whether the signal is in the list. `contains` (tried) is slower on so few.
 fn is_in(signal: u8, signals: &[u8]) -> bool
     ensures { result ≡ is_in signal signals.now }
 {
-    signals.contains(&signal)
+    for other in signals {
+        if *other == signal {
+            return true;
+        }
+    }
+    false
 }
 
 // The mask, and the biases in its order.

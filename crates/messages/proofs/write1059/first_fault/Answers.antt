@@ -14,25 +14,25 @@ returns-then-satellite-gt63 c =
     let l = c.loop-i in
     sym (l.invariant ∙ sym (is_satellite a.mask a.satellites.now a.signals.now a.biases.now c.requires.0 c.requires.1 l.i (omega arith) c.if-satellite-gt63.true))
 
-pub returns-then-not-in_mask : goal.returns-then-not-in_mask
-returns-then-not-in_mask c =
+pub returns-then-not-known : goal.returns-then-not-known
+returns-then-not-known c =
     let a = c.args in
     let l = c.loop-i in
-    sym (l.invariant ∙ sym (is_signal_lem a.mask a.satellites.now a.signals.now a.biases.now c.requires.0 c.requires.1 l.i (omega arith) (omega arith) (sym c.in_mask.ensures ∙ c.if-not-in_mask.true)))
+    sym (l.invariant ∙ sym (is_signal_lem a.mask a.satellites.now a.signals.now a.biases.now c.requires.0 c.requires.1 l.i (omega arith) (omega arith) (sym c.in_mask-known.ensures ∙ c.if-not-known.true)))
 
-pub returns-then-not-fits_bias : goal.returns-then-not-fits_bias
-returns-then-not-fits_bias c =
+pub returns-then-not-fits : goal.returns-then-not-fits
+returns-then-not-fits c =
     let a = c.args in
     let l = c.loop-i in
-    let e = c.fits_bias.ensures ∙ ap (fits_twos 14) (same_16 (get_or a.biases.now l.i (pos 0)) (omega arith)) in
-    sym (l.invariant ∙ sym (is_range a.mask a.satellites.now a.signals.now a.biases.now c.requires.0 c.requires.1 l.i (omega arith) (omega arith) (sym c.in_mask.ensures ∙ c.if-not-in_mask.false) (sym e ∙ c.if-not-fits_bias.true)))
+    let e = c.fits_bias-fits.ensures ∙ ap (fits_twos 14) (same_16 (get_or a.biases.now l.i (pos 0)) (omega arith)) in
+    sym (l.invariant ∙ sym (is_range a.mask a.satellites.now a.signals.now a.biases.now c.requires.0 c.requires.1 l.i (omega arith) (omega arith) (sym c.in_mask-known.ensures ∙ c.if-not-known.false) (sym e ∙ c.if-not-fits.true)))
 
 pub loop-i-preserved : goal.loop-i-preserved
 loop-i-preserved c =
     let a = c.args in
     let l = c.loop-i in
-    let e = c.fits_bias.ensures ∙ ap (fits_twos 14) (same_16 (get_or a.biases.now l.i (pos 0)) (omega arith)) in
-    l.invariant ∙ is_fine a.mask a.satellites.now a.signals.now a.biases.now c.requires.0 c.requires.1 l.i (omega arith) (omega arith) (sym c.in_mask.ensures ∙ c.if-not-in_mask.false) (sym e ∙ c.if-not-fits_bias.false)
+    let e = c.fits_bias-fits.ensures ∙ ap (fits_twos 14) (same_16 (get_or a.biases.now l.i (pos 0)) (omega arith)) in
+    l.invariant ∙ is_fine a.mask a.satellites.now a.signals.now a.biases.now c.requires.0 c.requires.1 l.i (omega arith) (omega arith) (sym c.in_mask-known.ensures ∙ c.if-not-known.false) (sym e ∙ c.if-not-fits.false)
 
 pub returns : goal.returns
 returns c =
