@@ -13,8 +13,8 @@ use Rattle.bits.specs.Outcome.{outcome}
 use Rattle.bits.specs.Field.{write_by}
 use Rattle.bits.specs.Fields.{Field, bits, total, put_all}
 use Rattle.bits.specs.Answers.{told_written}
-use Rattle.bits.specs.declared.field.Written.{Written}
-use Rattle.bits.specs.declared.field.Written.TheVariants.{End}
+use Rattle.bits.specs.declared.refusal.Refusal.{Refusal}
+use Rattle.std.specs.Prelude.{Result, Ok, IsOk}
 use Rattle.bits.proofs.FieldsLaws.{total_none, total_one, total_append, put_none, put_one, put_append, length_put_all}
 use Rattle.bits.proofs.WriteLaws.{writes}
 use Rattle.bits.proofs.ToldLaws.{only_wrote}
@@ -85,18 +85,22 @@ module _ {s₀ : List ℕ} {p₀ : ℕ} {fs₀ : List Field} {s : List ℕ} {p :
 -- ---- one field, as the code takes the answer
 
 module _ (fitting : Bool) (v : ℕ) (s : List ℕ) (p w : ℕ) (f : RoomFor s p (bits w v ∷ [])) (low : 1 ≤ w) (high : w ≤ 64) (g : fitting ≡ true)
-    (r : Written) (t : List ℕ) (e : outcome (told_written r) t ≡ write_by fitting v s p w) where
-  ended : (r ≡ End (p + w)) × (IsPut s p (bits w v ∷ []) t (p + w))
+    (r : Result ℕ Refusal) (t : List ℕ) (e : outcome (told_written r) t ≡ write_by fitting v s p w) where
+  ended : (r ≡ Ok (p + w)) × (IsPut s p (bits w v ∷ []) t (p + w))
   ended =
       let o = only_wrote (write_by fitting v s p w) e (sym (writes fitting v s p w f.few low high g (omega (arith, f.within, total_one w v)))) in
       (o.0, record { end = omega (arith, total_one w v); left = o.1 ∙ sym (put_one s p w v) })
 
-  pub is_put_one : (q : ℕ) → r ≡ End q → IsPut s p (bits w v ∷ []) t q
+  pub is_put_one : (q : ℕ) → r ≡ Ok q → IsPut s p (bits w v ∷ []) t q
   is_put_one q n =
-      let b : End q ≡ End (p + w) = sym n ∙ ended.0 in
+      let b : ◌≡◌ {A = Result ℕ Refusal} (Ok q) (Ok (p + w)) = sym n ∙ ended.0 in
       let d : p + w ≡ q = cc in
       subst (λ (x : ℕ). IsPut s p (bits w v ∷ []) t x) d ended.1
 
+  -- the write is accepted
+  pub is_put_ok : IsOk r
+  is_put_ok = rw ended.0 refl
+
   -- the arm of a `let .. else` that an accepted write never takes
-  pub is_put_else : (q : ℕ) → ((n : ℕ) → r ≡ End n → ⊥) → IsPut s p (bits w v ∷ []) t q
+  pub is_put_else : (q : ℕ) → ((n : ℕ) → r ≡ Ok n → ⊥) → IsPut s p (bits w v ∷ []) t q
   is_put_else q o = absurd (o (p + w) ended.0)

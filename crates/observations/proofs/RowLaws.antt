@@ -3,7 +3,7 @@ use mathlib.Core.Path.{◌≡◌}
 use mathlib.Core.List.{List}
 use Prim.Native.Nat.{ℕ}
 use lib.IntN.{ℤ}
-use mir.Syntax.{w32}
+use mir.Syntax.{w32, w64}
 use mir.Val.{to_z, of_z}
 use Rattle.bits.specs.Told.{Accepted, Refused}
 use Rattle.bits.specs.Field.{reading, read_unsigned, read_twos}
@@ -32,5 +32,5 @@ module _ (s : List ℕ) (p : ℕ) where
 
           -- the phase as the code hands it on
           pub row_read : {d v : ℕ} → read_unsigned s u 7 ≡ Accepted (reading d v)
-              → Accepted (reading (to_observation (a, (b, (c, (to_z w32 (of_z w32 z), d))))) v) ≡ observation1001.reads s p
+              → Accepted (reading (to_observation (a, (b, (c, (to_z w32 (of_z w32 (to_z w64 (of_z w64 z))), d))))) v) ≡ observation1001.reads s p
           row_read e = rw satellite (rw code (rw pseudorange (rw phase (rw (e, phase_same s t phase)))))

@@ -1,6 +1,6 @@
--- `observations::write::first_fault` meets its contract. The loop's invariant: no observation before `i` has a fault. Assumes nothing.
+-- The loop's invariant: no observation before `i` has a fault. Assumes nothing.
 use mathlib.Core.Path.{◌≡◌}
-use Prim.Native.Nat.{◌-◌, ◌≤◌}
+use Prim.Native.Nat.{◌-◌}
 use lib.ListN.{length}
 use Rattle.formats.specs.Written.{first_fault}
 use Rattle.observations.specs.Lists.{lists, rows, rows_from}
@@ -9,8 +9,4 @@ use Rattle.observations.proofs.write.first_fault.Given as goal
 
 abbrev pub invariant-loop-i : goal.invariant-loop-i
 invariant-loop-i l =
-    (l.i ≤ length l.satellites)
-    × (first_fault fault1001 0 (rows (lists l.satellites l.codes l.pseudoranges l.phases l.locks)) ≡ first_fault fault1001 l.i (rows_from (lists l.satellites l.codes l.pseudoranges l.phases l.locks) l.i (length l.satellites - l.i)))
-
-abbrev pub decreases-loop-i : goal.decreases-loop-i
-decreases-loop-i l = length l.satellites - l.i
+    (first_fault fault1001 0 (rows (lists l.satellites l.codes l.pseudoranges l.phases l.locks)) ≡ first_fault fault1001 l.i (rows_from (lists l.satellites l.codes l.pseudoranges l.phases l.locks) l.i (length l.satellites - l.i)))

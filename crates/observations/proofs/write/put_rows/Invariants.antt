@@ -1,5 +1,5 @@
--- `observations::write::put_rows` meets its contract. The loop's invariant: what is left to put are the observations from `i` on. Assumes nothing.
-use Prim.Native.Nat.{◌-◌, ◌≤◌}
+-- The loop's invariant: what is left to put are the observations from `i` on. Assumes nothing.
+use Prim.Native.Nat.{◌-◌}
 use lib.ListN.{length}
 use Rattle.formats.specs.Format.{fields_each}
 use Rattle.formats.proofs.PutLaws.{Left}
@@ -10,9 +10,5 @@ use Rattle.observations.proofs.write.put_rows.Given as goal
 
 abbrev pub invariant-loop-i : goal.invariant-loop-i
 invariant-loop-i l =
-    (l.i ≤ length l.satellites)
-    × Left l.initial.bytes 64 (fields_each observation1001 (rows (lists l.satellites l.codes l.pseudoranges l.phases l.locks))) l.bytes l.at (fields_each observation1001 (rows_from (lists l.satellites l.codes l.pseudoranges l.phases l.locks) l.i (length l.satellites - l.i)))
+    Left l.initial.bytes 64 (fields_each observation1001 (rows (lists l.satellites l.codes l.pseudoranges l.phases l.locks))) l.bytes l.at (fields_each observation1001 (rows_from (lists l.satellites l.codes l.pseudoranges l.phases l.locks) l.i (length l.satellites - l.i)))
     × AllFit (rows_from (lists l.satellites l.codes l.pseudoranges l.phases l.locks) l.i (length l.satellites - l.i))
-
-abbrev pub decreases-loop-i : goal.decreases-loop-i
-decreases-loop-i l = length l.satellites - l.i
