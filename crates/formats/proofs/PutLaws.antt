@@ -93,7 +93,7 @@ module _ (fitting : Bool) (v : ℕ) (s : List ℕ) (p w : ℕ) (f : RoomFor s p 
 
   pub is_put_one : (q : ℕ) → r ≡ Ok q → IsPut s p (bits w v ∷ []) t q
   is_put_one q n =
-      let b : ◌≡◌ {A = Result ℕ Refusal} (Ok q) (Ok (p + w)) = sym n ∙ ended.0 in
+      let b : Ok q ≡ Ok (p + w) = sym n ∙ ended.0 in
       let d : p + w ≡ q = cc in
       subst (λ (x : ℕ). IsPut s p (bits w v ∷ []) t x) d ended.1
 

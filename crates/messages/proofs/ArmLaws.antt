@@ -9,10 +9,10 @@ use Rattle.bits.specs.Told.{Told, Accepted, Refused, size, and_then}
 use Rattle.bits.specs.Field.{Reading, reading, cut_at, read_unsigned, read_twos, read_by}
 use Rattle.bits.specs.Signed.{twos_of}
 use Rattle.bits.specs.Answers.{told_unsigned, told_signed}
-use Rattle.bits.specs.declared.field.Unsigned.{Unsigned}
-use Rattle.bits.specs.declared.field.Unsigned.TheVariants as U
-use Rattle.bits.specs.declared.field.Signed.{Signed}
-use Rattle.bits.specs.declared.field.Signed.TheVariants as S
+use Rattle.std.specs.Prelude.{Result, Ok, Err}
+use Rattle.bits.specs.Refusals.{number_of, carried_by}
+use Rattle.bits.specs.declared.refusal.Refusal.{Refusal}
+use Rattle.bits.specs.declared.refusal.Refusal.TheVariants as F
 use Rattle.bits.proofs.ReadLaws.{reads_value, reads_short, refused_short, refused_behind, read_tells, value_tells}
 use Rattle.messages.specs.Records.{Counted}
 use Rattle.messages.specs.Answers.{told_read}
@@ -39,17 +39,13 @@ pub is_short : {A : Type 0} {t : Told A} {carried : List ℕ} → t ≡ Refused 
 is_short {carried = c} e = record { number = 1; carried = c; is = e }
 
 -- of four variants it is none but the first
-unsigned_refused : (r : Unsigned) → ((v q : ℕ) → r ≡ U.Value v q → ⊥) → IsRefused (told_unsigned r)
-unsigned_refused (U.Value v q) o = absurd (o _ _ refl)
-unsigned_refused U.Size o = record { number = 9; carried = []; is = refl }
-unsigned_refused U.Width o = record { number = 2; carried = []; is = refl }
-unsigned_refused (U.Short p m) o = record { number = 1; carried = p ∷ m ∷ []; is = refl }
+unsigned_refused : (r : Result (ℕ × ℕ) Refusal) → ((v : ℕ × ℕ) → r ≡ Ok v → ⊥) → IsRefused (told_unsigned r)
+unsigned_refused (Ok v) o = absurd (o _ refl)
+unsigned_refused (Err e) o = record { number = number_of e; carried = carried_by e; is = refl }
 
-signed_refused : (r : Signed) → ((v : ℤ) (q : ℕ) → r ≡ S.Value v q → ⊥) → IsRefused (told_signed r)
-signed_refused (S.Value v q) o = absurd (o _ _ refl)
-signed_refused S.Size o = record { number = 9; carried = []; is = refl }
-signed_refused S.Width o = record { number = 2; carried = []; is = refl }
-signed_refused (S.Short p m) o = record { number = 1; carried = p ∷ m ∷ []; is = refl }
+signed_refused : (r : Result (ℤ × ℕ) Refusal) → ((v : ℤ × ℕ) → r ≡ Ok v → ⊥) → IsRefused (told_signed r)
+signed_refused (Ok v) o = absurd (o _ refl)
+signed_refused (Err e) o = record { number = number_of e; carried = carried_by e; is = refl }
 
 pub read_refused : (r : BlockRead) → ((n q : ℕ) → r ≡ R.Records n q → ⊥) → IsRefused (told_read r)
 read_refused (R.Records n q) o = absurd (o _ _ refl)
@@ -62,18 +58,18 @@ module _ (s : List ℕ) (p w : ℕ) (few : length s ≤ 1023) (low : 1 ≤ w) (h
   refused_cut : {A : Type 0} (meaning : ℕ → A) {t : Told (Reading A)} → IsRefused t → t ≡ read_by meaning s p w → read_by meaning s p w ≡ cut_at (length s) p w
   refused_cut meaning r e = refused_short meaning s p w few low high (sym e ∙ r.is)
 
-  pub unsigned_cut : (r : Unsigned) → told_unsigned r ≡ read_unsigned s p w → ((v q : ℕ) → r ≡ U.Value v q → ⊥)
+  pub unsigned_cut : (r : Result (ℕ × ℕ) Refusal) → told_unsigned r ≡ read_unsigned s p w → ((v : ℕ × ℕ) → r ≡ Ok v → ⊥)
       → {answer : Told Counted} → ((carried : List ℕ) → told_unsigned r ≡ Refused 1 carried → answer ≡ Refused 1 carried)
       → (read_unsigned s p w ≡ cut_at (length s) p w) × (answer ≡ cut_at (length s) p w)
   unsigned_cut r e o passed = let k = refused_cut (λ v. v) (unsigned_refused r o) e in (k, passed _ (e ∙ k))
 
-  pub twos_cut : (r : Signed) → told_signed r ≡ read_twos s p w → ((v : ℤ) (q : ℕ) → r ≡ S.Value v q → ⊥)
+  pub twos_cut : (r : Result (ℤ × ℕ) Refusal) → told_signed r ≡ read_twos s p w → ((v : ℤ × ℕ) → r ≡ Ok v → ⊥)
       → {answer : Told Counted} → ((carried : List ℕ) → told_signed r ≡ Refused 1 carried → answer ≡ Refused 1 carried)
       → (read_twos s p w ≡ cut_at (length s) p w) × (answer ≡ cut_at (length s) p w)
   twos_cut r e o passed = let k = refused_cut (twos_of w) (signed_refused r o) e in (k, passed _ (e ∙ k))
 
   -- a field that lies within the data is not refused
-  pub not_refused : p + w ≤ length s * 8 → (r : Unsigned) → told_unsigned r ≡ read_unsigned s p w → ((v q : ℕ) → r ≡ U.Value v q → ⊥) → ⊥
+  pub not_refused : p + w ≤ length s * 8 → (r : Result (ℕ × ℕ) Refusal) → told_unsigned r ≡ read_unsigned s p w → ((v : ℕ × ℕ) → r ≡ Ok v → ⊥) → ⊥
   not_refused h r e o =
       let d = sym e ∙ (unsigned_refused r o).is in
       let f = reads_value (λ v. v) s p w few low high h in
@@ -81,7 +77,7 @@ module _ (s : List ℕ) (p w : ℕ) (few : length s ≤ 1023) (low : 1 ≤ w) (h
       omega arith
 
   -- a signed field that ends behind the data is cut short
-  pub twos_behind : length s * 8 < p + w → (r : Signed) → told_signed r ≡ read_twos s p w
+  pub twos_behind : length s * 8 < p + w → (r : Result (ℤ × ℕ) Refusal) → told_signed r ≡ read_twos s p w
       → {answer : Told Counted} → ((carried : List ℕ) → told_signed r ≡ Refused 1 carried → answer ≡ Refused 1 carried) → answer ≡ cut_at (length s) p w
   twos_behind h r e passed = passed _ (e ∙ reads_short (twos_of w) s p w few low high h)
 
@@ -91,21 +87,47 @@ module _ (s : List ℕ) (p w : ℕ) (few : length s ≤ 1023) (low : 1 ≤ w) (h
 
 -- ---- the Short of a field, passed on
 
-pub unsigned_passed : (r : Unsigned) {p m : ℕ} → r ≡ U.Short p m → (carried : List ℕ) → told_unsigned r ≡ Refused 1 carried → told_read (R.Short p m) ≡ Refused 1 carried
+pub unsigned_passed : (r : Result (ℕ × ℕ) Refusal) {p m : ℕ} → r ≡ Err (F.Short p m) → (carried : List ℕ) → told_unsigned r ≡ Refused 1 carried → told_read (R.Short p m) ≡ Refused 1 carried
 unsigned_passed r g carried e = ap (λ (t : Told (Reading ℕ)). and_then t (λ a. size)) (ap told_unsigned (sym g) ∙ e)
 
-pub signed_passed : (r : Signed) {p m : ℕ} → r ≡ S.Short p m → (carried : List ℕ) → told_signed r ≡ Refused 1 carried → told_read (R.Short p m) ≡ Refused 1 carried
+pub signed_passed : (r : Result (ℤ × ℕ) Refusal) {p m : ℕ} → r ≡ Err (F.Short p m) → (carried : List ℕ) → told_signed r ≡ Refused 1 carried → told_read (R.Short p m) ≡ Refused 1 carried
 signed_passed r g carried e = ap (λ (t : Told (Reading ℤ)). and_then t (λ a. size)) (ap told_signed (sym g) ∙ e)
 
 -- of four variants it is none but the last
-pub unsigned_not_short : (r : Unsigned) → ((p m : ℕ) → r ≡ U.Short p m → ⊥) → (carried : List ℕ) → told_unsigned r ≡ Refused 1 carried → ⊥
-unsigned_not_short (U.Value v q) o carried e = let z : ◌≡◌ {A = ℕ} 0 1 = cc in omega arith
-unsigned_not_short U.Size o carried e = let z : ◌≡◌ {A = ℕ} 9 1 = cc in omega arith
-unsigned_not_short U.Width o carried e = let z : ◌≡◌ {A = ℕ} 2 1 = cc in omega arith
-unsigned_not_short (U.Short p m) o carried e = o p m refl
+pub unsigned_not_short : (r : Result (ℕ × ℕ) Refusal) → ((p m : ℕ) → r ≡ Err (F.Short p m) → ⊥) → (carried : List ℕ) → told_unsigned r ≡ Refused 1 carried → ⊥
+unsigned_not_short (Ok v) o carried e = let z : ◌≡◌ {A = ℕ} 0 1 = cc in omega arith
+unsigned_not_short (Err (F.Short p m)) o carried e = o p m refl
+unsigned_not_short (Err F.Width) o carried e = let z : ◌≡◌ {A = ℕ} 2 1 = cc in omega arith
+unsigned_not_short (Err (F.Range i)) o carried e = let z : ◌≡◌ {A = ℕ} 3 1 = cc in omega arith
+unsigned_not_short (Err (F.Signal i)) o carried e = let z : ◌≡◌ {A = ℕ} 4 1 = cc in omega arith
+unsigned_not_short (Err (F.Satellite i)) o carried e = let z : ◌≡◌ {A = ℕ} 5 1 = cc in omega arith
+unsigned_not_short (Err (F.TooMany i)) o carried e = let z : ◌≡◌ {A = ℕ} 6 1 = cc in omega arith
+unsigned_not_short (Err (F.Duplicate i)) o carried e = let z : ◌≡◌ {A = ℕ} 7 1 = cc in omega arith
+unsigned_not_short (Err (F.Room i)) o carried e = let z : ◌≡◌ {A = ℕ} 8 1 = cc in omega arith
+unsigned_not_short (Err F.Size) o carried e = let z : ◌≡◌ {A = ℕ} 9 1 = cc in omega arith
+unsigned_not_short (Err F.NoPreamble) o carried e = let z : ◌≡◌ {A = ℕ} 10 1 = cc in omega arith
+unsigned_not_short (Err F.State) o carried e = let z : ◌≡◌ {A = ℕ} 11 1 = cc in omega arith
+unsigned_not_short (Err F.Incomplete) o carried e = let z : ◌≡◌ {A = ℕ} 12 1 = cc in omega arith
+unsigned_not_short (Err F.Kind) o carried e = let z : ◌≡◌ {A = ℕ} 13 1 = cc in omega arith
+unsigned_not_short (Err (F.BadCheck a b)) o carried e = let z : ◌≡◌ {A = ℕ} 14 1 = cc in omega arith
+unsigned_not_short (Err F.Full) o carried e = let z : ◌≡◌ {A = ℕ} 15 1 = cc in omega arith
+unsigned_not_short (Err F.Absent) o carried e = let z : ◌≡◌ {A = ℕ} 16 1 = cc in omega arith
 
-pub signed_not_short : (r : Signed) → ((p m : ℕ) → r ≡ S.Short p m → ⊥) → (carried : List ℕ) → told_signed r ≡ Refused 1 carried → ⊥
-signed_not_short (S.Value v q) o carried e = let z : ◌≡◌ {A = ℕ} 0 1 = cc in omega arith
-signed_not_short S.Size o carried e = let z : ◌≡◌ {A = ℕ} 9 1 = cc in omega arith
-signed_not_short S.Width o carried e = let z : ◌≡◌ {A = ℕ} 2 1 = cc in omega arith
-signed_not_short (S.Short p m) o carried e = o p m refl
+pub signed_not_short : (r : Result (ℤ × ℕ) Refusal) → ((p m : ℕ) → r ≡ Err (F.Short p m) → ⊥) → (carried : List ℕ) → told_signed r ≡ Refused 1 carried → ⊥
+signed_not_short (Ok v) o carried e = let z : ◌≡◌ {A = ℕ} 0 1 = cc in omega arith
+signed_not_short (Err (F.Short p m)) o carried e = o p m refl
+signed_not_short (Err F.Width) o carried e = let z : ◌≡◌ {A = ℕ} 2 1 = cc in omega arith
+signed_not_short (Err (F.Range i)) o carried e = let z : ◌≡◌ {A = ℕ} 3 1 = cc in omega arith
+signed_not_short (Err (F.Signal i)) o carried e = let z : ◌≡◌ {A = ℕ} 4 1 = cc in omega arith
+signed_not_short (Err (F.Satellite i)) o carried e = let z : ◌≡◌ {A = ℕ} 5 1 = cc in omega arith
+signed_not_short (Err (F.TooMany i)) o carried e = let z : ◌≡◌ {A = ℕ} 6 1 = cc in omega arith
+signed_not_short (Err (F.Duplicate i)) o carried e = let z : ◌≡◌ {A = ℕ} 7 1 = cc in omega arith
+signed_not_short (Err (F.Room i)) o carried e = let z : ◌≡◌ {A = ℕ} 8 1 = cc in omega arith
+signed_not_short (Err F.Size) o carried e = let z : ◌≡◌ {A = ℕ} 9 1 = cc in omega arith
+signed_not_short (Err F.NoPreamble) o carried e = let z : ◌≡◌ {A = ℕ} 10 1 = cc in omega arith
+signed_not_short (Err F.State) o carried e = let z : ◌≡◌ {A = ℕ} 11 1 = cc in omega arith
+signed_not_short (Err F.Incomplete) o carried e = let z : ◌≡◌ {A = ℕ} 12 1 = cc in omega arith
+signed_not_short (Err F.Kind) o carried e = let z : ◌≡◌ {A = ℕ} 13 1 = cc in omega arith
+signed_not_short (Err (F.BadCheck a b)) o carried e = let z : ◌≡◌ {A = ℕ} 14 1 = cc in omega arith
+signed_not_short (Err F.Full) o carried e = let z : ◌≡◌ {A = ℕ} 15 1 = cc in omega arith
+signed_not_short (Err F.Absent) o carried e = let z : ◌≡◌ {A = ℕ} 16 1 = cc in omega arith

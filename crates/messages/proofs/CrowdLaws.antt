@@ -1,6 +1,6 @@
 -- The counts of the satellites, and the tests on them. Assumes nothing.
 use mathlib.Core.Path.{◌≡◌, refl, sym, ap, ap₂, ◌∙◌}
-use mathlib.Core.Bool.{Bool, true, false, cond}
+use mathlib.Core.Bool.{Bool, true, false, cond, not}
 use mathlib.Core.List.{List, [], ◌∷◌}
 use Prim.Native.Nat.{ℕ, zero, suc, ◌+◌, ◌*◌, ◌≤◌, ◌<◌}
 use native.Mathlib.Numerals.{add-one}
@@ -9,6 +9,8 @@ use borrow.Author.Tests.{lt-ltb, le-ltb, ltb-false}
 use lib.Dec.{eqb, ltb}
 use lib.ListN.{length, drop, get_or, drop_of_length-le}
 use lib.Seq.{drop-cons}
+use Rattle.std.specs.Prelude.{count_by}
+use Rattle.std.proofs.lemmas.List.Recursion.{is_count_by}
 use Rattle.bits.specs.Told.{Told, too_many}
 use Rattle.bits.specs.Fields.{total}
 use Rattle.bits.proofs.FieldsLaws.{total_next}
@@ -43,9 +45,6 @@ module _ (cs : List ℕ) (a : ℕ) (h : a < length cs) where
       ∙ ap (λ (b : Bool). cond b (too_many a) (crowded_in (suc a) (drop (suc a) cs))) (le-ltb 31 (get_or cs a 0) l)
       ∙ ap (λ (n : ℕ). crowded_in n (drop n cs)) (sym (add-one a))
 
-  pub present_here : present_in (drop a cs) ≡ cond (eqb (get_or cs a 0) 0) 0 1 + present_in (drop (a + 1) cs)
-  present_here = rw add-one present_cons
-
 pub not_over : (cs : List ℕ) (a : ℕ) → length cs ≤ a → crowded_in a (drop a cs) ≡ fine
 unfolding crowded_in
 not_over cs a h = ap (crowded_in a) (drop_of_length-le cs h)
@@ -53,6 +52,15 @@ not_over cs a h = ap (crowded_in a) (drop_of_length-le cs h)
 pub present_none : (cs : List ℕ) (a : ℕ) → length cs ≤ a → present_in (drop a cs) ≡ 0
 unfolding present_in
 present_none cs a h = ap present_in (drop_of_length-le cs h)
+
+-- as the code counts them
+pub present_counted : (cs : List ℕ) → count_by (λ n. not (eqb n 0)) cs ≡ present_in cs
+unfolding present_in
+present_counted cs = sym (is_count_by present_in (λ n. not (eqb n 0)) refl (λ c cs. go (eqb c 0) (present_in cs)) cs)
+  where
+    go : (b : Bool) (n : ℕ) → cond b 0 1 + n ≡ cond (not b) (1 + n) n
+    go true n = omega arith
+    go false n = refl
 
 -- none over 31: each count fits 5 bits
 pub counts_fit : (k : ℕ) (cs : List ℕ) → crowded_in k cs ≡ fine → (i : ℕ) → i < length cs → get_or cs i 0 < 32

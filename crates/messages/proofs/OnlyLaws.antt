@@ -20,7 +20,8 @@ use Rattle.messages.specs.declared.signals1059.Signal1059.{Signal1059}
 use Rattle.messages.specs.declared.signals1059.Number1059.{Number1059}
 use Rattle.messages.specs.declared.signals.Order.{Order}
 use Rattle.messages.specs.declared.answer.BlockRead.{BlockRead}
-use Rattle.messages.specs.declared.answer.BlockWritten.{BlockWritten}
+use Rattle.std.specs.Prelude.{Result}
+use Rattle.bits.specs.declared.refusal.Refusal.{Refusal}
 use Rattle.bits.proofs.ToldLaws.{only}
 use Rattle.messages.proofs.ToldLaws.{signal_one_to_one, number_one_to_one, same_signal_found, same_number_found, same_order, only_read, only_block}
 
@@ -68,10 +69,10 @@ pub only_read_1230 : (s : List ℕ) (p : ℕ) (b : List ℕ) (c : List ℤ) {x y
     → outcome (told_read x) l ≡ read1230 s p b c → outcome (told_read y) m ≡ read1230 s p b c → (x ≡ y) × (l ≡ m)
 only_read_1230 s p b c = only_read (read1230 s p b c)
 
-pub only_write_1059 : (e : ℕ) (s : List ℕ) (p : ℕ) (sats gs : List ℕ) (zs : List ℤ) {x y : BlockWritten} {t u : List ℕ}
+pub only_write_1059 : (e : ℕ) (s : List ℕ) (p : ℕ) (sats gs : List ℕ) (zs : List ℤ) {x y : Result ℕ Refusal} {t u : List ℕ}
     → outcome (told_block x) t ≡ write1059 e s p sats gs zs → outcome (told_block y) u ≡ write1059 e s p sats gs zs → (x ≡ y) × (t ≡ u)
 only_write_1059 e s p sats gs zs = only_block (write1059 e s p sats gs zs)
 
-pub only_write_1230 : (s : List ℕ) (p : ℕ) (gs : List ℕ) (zs : List ℤ) {x y : BlockWritten} {t u : List ℕ}
+pub only_write_1230 : (s : List ℕ) (p : ℕ) (gs : List ℕ) (zs : List ℤ) {x y : Result ℕ Refusal} {t u : List ℕ}
     → outcome (told_block x) t ≡ write1230 s p gs zs → outcome (told_block y) u ≡ write1230 s p gs zs → (x ≡ y) × (t ≡ u)
 only_write_1230 s p gs zs = only_block (write1230 s p gs zs)

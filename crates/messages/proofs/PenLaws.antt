@@ -13,8 +13,8 @@ use Rattle.bits.specs.Told.{Accepted}
 use Rattle.bits.specs.Field.{Reading, reading, read_unsigned, field, put_field, bit_at}
 use Rattle.bits.specs.Fields.{Bytes, bits, total, put_all}
 use Rattle.bits.specs.Answers.{told_unsigned}
-use Rattle.bits.specs.declared.field.Unsigned.{Unsigned}
-use Rattle.bits.specs.declared.field.Unsigned.TheVariants.{Value}
+use Rattle.std.specs.Prelude.{Result, Ok}
+use Rattle.bits.specs.declared.refusal.Refusal.{Refusal}
 use Rattle.bits.proofs.BitLaws.{length_put, put_outside, read_back}
 use Rattle.bits.proofs.SpliceLaws.{put_split}
 use Rattle.bits.proofs.SameBits.{same_bits, field_bits, bytes_put, put_same}
@@ -92,7 +92,7 @@ module _ (s : List ℕ) (p : ℕ) (h : p ≤ length s * 8) (b : Bytes s) where
     opened_read e = opened (ap (λ (r : Reading ℕ). r.value) (read_tells (λ x. x) s (p / 32 * 32) (p % 32) e).is)
 
     -- a field of no bits alone is refused there
-    pub opened_else : (r : Unsigned) → told_unsigned r ≡ read_unsigned s (p / 32 * 32) (p % 32) → ((v q : ℕ) → r ≡ Value v q → ⊥) → drawn s p 0 ≡ s
+    pub opened_else : (r : Result (ℕ × ℕ) Refusal) → told_unsigned r ≡ read_unsigned s (p / 32 * 32) (p % 32) → ((v : ℕ × ℕ) → r ≡ Ok v → ⊥) → drawn s p 0 ≡ s
     opened_else r e o = go (dec_lt 0 (p % 32))
       where
         go : Dec (0 < p % 32) → drawn s p 0 ≡ s

@@ -1,7 +1,7 @@
 -- The signals of records of message 1230: which the mask lacks, and which stand twice. Assumes nothing.
 use mathlib.Core.Path.{◌≡◌, refl, sym, ap, subst, ◌∙◌}
 use mathlib.Core.Logic.{◌⊎◌, inl, inr}
-use mathlib.Core.Bool.{Bool, true, false, cond, not}
+use mathlib.Core.Bool.{Bool, true, false, cond, not, ◌||◌}
 use mathlib.Core.List.{List, [], ◌∷◌, ◌++◌}
 use Prim.Native.Nat.{ℕ, zero, suc, ◌+◌, ◌≤◌, ◌<◌}
 use native.Mathlib.Numerals.{add-one}
@@ -10,6 +10,7 @@ use borrow.Author.Tests.{eq-eqb, ne_eqb, eqb-true}
 use lib.Dec.{T, eqb}
 use lib.ListN.{length, get_or, take, drop, drop_of_length-le}
 use lib.Seq.{drop-cons, take-suc}
+use Rattle.std.specs.List.{list_any}
 use Rattle.bits.specs.Told.{Told, and_then, signal}
 use Rattle.formats.specs.Written.{fine, first_fault}
 use Rattle.formats.proofs.WrittenLaws.{fault_none, fault_next}
@@ -34,6 +35,16 @@ module _ (k : ℕ) (gs : List ℕ) (i : ℕ) where
   pub in_none : length gs ≤ i → is_in k (drop i gs) ≡ false
   unfolding is_among
   in_none h = ap (is_in k) (drop_of_length-le gs h)
+
+-- as the code looks for it
+pub any_in : (k : ℕ) (gs : List ℕ) → list_any (λ g. eqb g k) gs ≡ is_in k gs
+unfolding is_among
+any_in k [] = refl
+any_in k (g ∷ gs) = ap (λ (b : Bool). eqb g k || b) (any_in k gs) ∙ go (eqb g k)
+  where
+    go : (b : Bool) → (b || is_in k gs) ≡ cond b true (is_in k gs)
+    go true = refl
+    go false = refl
 
 -- ---- signals that the mask lacks
 

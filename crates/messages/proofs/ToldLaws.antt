@@ -24,8 +24,9 @@ use Rattle.messages.specs.declared.signals.Order.{Order}
 use Rattle.messages.specs.declared.signals.Order.TheVariants as O
 use Rattle.messages.specs.declared.answer.BlockRead.{BlockRead}
 use Rattle.messages.specs.declared.answer.BlockRead.TheVariants as R
-use Rattle.messages.specs.declared.answer.BlockWritten.{BlockWritten}
-use Rattle.messages.specs.declared.answer.BlockWritten.TheVariants as W
+use Rattle.std.specs.Prelude.{Result}
+use Rattle.bits.specs.declared.refusal.Refusal.{Refusal}
+use Rattle.bits.proofs.RefusalLaws.{told_one_to_one}
 
 -- ---- signals, numbers and their order
 
@@ -104,33 +105,9 @@ only_read d = only_outcome told_read read_one_to_one d
 
 -- ---- writing a block
 
-block : Told ℕ → BlockWritten
-block (Accepted q) = W.End q
-block (Refused n carried) =
-    cond (eqb n 9) W.Size
-    (cond (eqb n 5) (W.Satellite (get_or carried 0 0))
-    (cond (eqb n 4) (W.Signal (get_or carried 0 0))
-    (cond (eqb n 3) (W.Range (get_or carried 0 0))
-    (cond (eqb n 6) (W.TooMany (get_or carried 0 0))
-    (cond (eqb n 7) (W.Duplicate (get_or carried 0 0))
-    (cond (eqb n 13) W.Kind
-    (W.Room (get_or carried 0 0))))))))
-
-block_again : (x : BlockWritten) → block (told_block x) ≡ x
-unfolding block
-block_again (W.End q) = refl
-block_again W.Size = refl
-block_again (W.Satellite i) = refl
-block_again (W.Signal i) = refl
-block_again (W.Range i) = refl
-block_again (W.TooMany a) = refl
-block_again (W.Duplicate i) = refl
-block_again (W.Room n) = refl
-block_again W.Kind = refl
-
 pub block_one_to_one : OneToOne told_block
-block_one_to_one = found_again told_block block block_again
+block_one_to_one = told_one_to_one (λ q. q) (λ x y e. e)
 
 -- two outcomes that a statement allows are equal, the data too
-pub only_block : (d : Outcome ℕ (List ℕ)) {x y : BlockWritten} {s t : List ℕ} → outcome (told_block x) s ≡ d → outcome (told_block y) t ≡ d → (x ≡ y) × (s ≡ t)
+pub only_block : (d : Outcome ℕ (List ℕ)) {x y : Result ℕ Refusal} {s t : List ℕ} → outcome (told_block x) s ≡ d → outcome (told_block y) t ≡ d → (x ≡ y) × (s ≡ t)
 only_block d = only_outcome told_block block_one_to_one d

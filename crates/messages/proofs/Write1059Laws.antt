@@ -1,14 +1,13 @@
 -- Which answer writing the 1059 block gives: by its sizes and faults, and of records without a fault by the counts of their satellites. Assumes nothing.
 use mathlib.Core.Path.{◌≡◌, refl, sym, ap, ap₂, ◌∙◌}
 use mathlib.Core.List.{List, [], ◌∷◌, ◌++◌, append-nil}
-use mathlib.Core.Bool.{Bool, true, false, cond}
+use mathlib.Core.Bool.{true, false}
 use Prim.Native.Nat.{ℕ, ◌≤◌, ◌<◌, ◌+◌, ◌*◌}
 use native.Mathlib.Omega.{arith}
 use borrow.Author.Tests.{lt-ltb, le-ltb, eq-eqb, ne_eqb}
 use lib.ListN.{length, get_or}
 use lib.IntN.{ℤ}
-use lib.Dec.{ltb}
-use Rattle.bits.specs.Told.{Told, Refused, size, too_many, duplicate, Accepted, room, kind}
+use Rattle.bits.specs.Told.{Told, Refused, size, too_many, Accepted, room, kind}
 use Rattle.bits.specs.Outcome.{outcome}
 use Rattle.bits.specs.Fields.{bits, total, put_all}
 use Rattle.messages.specs.Records.{Rec1059, records1059}
@@ -29,21 +28,21 @@ use Rattle.messages.proofs.CrowdLaws.{counts_fit, crowded_is, present_is, bits_i
 -- ---- records without a fault
 
 module _ (s : List ℕ) (p : ℕ) (rs : List Rec1059) where
-  pub some_crowded : (a : ℕ) → crowded 0 64 rs ≡ too_many a → outcome (too_many a) s ≡ write_faultless s p rs
+  some_crowded : {k : ℕ} {carried : List ℕ} → crowded 0 64 rs ≡ Refused k carried → outcome (Refused k carried) s ≡ write_faultless s p rs
   unfolding write_faultless refused_faultless
-  some_crowded a e = run_refused (refused_faultless rs) s p (fields1059 rs) (rw e)
+  some_crowded e = run_refused (refused_faultless rs) s p (fields1059 rs) (rw e)
 
   module _ (c : crowded 0 64 rs ≡ fine) where
-    pub all_present : present 0 64 rs ≡ 64 → outcome (too_many 64) s ≡ write_faultless s p rs
+    all_present : present 0 64 rs ≡ 64 → outcome (too_many 64) s ≡ write_faultless s p rs
     unfolding write_faultless refused_faultless
     all_present e = run_refused (refused_faultless rs) s p (fields1059 rs) (rw (c, eq-eqb (present 0 64 rs) 64 e))
 
     module _ (n : present 0 64 rs ≡ 64 → ⊥) where
-      pub some_repeat : (i : ℕ) → first_repeat same_pair 0 [] rs ≡ duplicate i → outcome (duplicate i) s ≡ write_faultless s p rs
+      some_repeat : {k : ℕ} {carried : List ℕ} → first_repeat same_pair 0 [] rs ≡ Refused k carried → outcome (Refused k carried) s ≡ write_faultless s p rs
       unfolding write_faultless refused_faultless
-      some_repeat i e = run_refused (refused_faultless rs) s p (fields1059 rs) (rw (c, ne_eqb (present 0 64 rs) 64 n) e)
+      some_repeat e = run_refused (refused_faultless rs) s p (fields1059 rs) (rw (c, ne_eqb (present 0 64 rs) 64 n) e)
 
-      pub nothing : first_repeat same_pair 0 [] rs ≡ fine → refused_faultless rs ≡ fine
+      nothing : first_repeat same_pair 0 [] rs ≡ fine → refused_faultless rs ≡ fine
       unfolding refused_faultless
       nothing e = rw (c, ne_eqb (present 0 64 rs) 64 n) e
 
@@ -56,76 +55,64 @@ module _ (s : List ℕ) (p : ℕ) (sats gs : List ℕ) (zs : List ℤ) (d : Faul
   crowd : crowded 0 64 (records1059 sats gs zs) ≡ crowded_in 0 cs
   crowd = crowded_is (records1059 sats gs zs) cs l.all_counts counts 64 0 refl
 
-  -- k is the lowest satellite that has over 31 biases, or 64
-  module _ (k : ℕ) (ek : cond (ltb k 64) (too_many k) fine ≡ crowded_in 0 cs) where
-    pub sound_crowded : k < 64 → outcome (too_many k) s ≡ write_faultless s p (records1059 sats gs zs)
-    sound_crowded h =
-        some_crowded s p (records1059 sats gs zs) k
-        (crowd ∙ sym ek ∙ ap (λ (b : Bool). cond b (too_many k) fine) (lt-ltb k 64 h))
+  pub sound_crowded : {k : ℕ} {carried : List ℕ} → crowded_in 0 cs ≡ Refused k carried → outcome (Refused k carried) s ≡ write_faultless s p (records1059 sats gs zs)
+  sound_crowded e = some_crowded s p (records1059 sats gs zs) (crowd ∙ e)
 
-    module _ (h : 64 ≤ k) (m : ℕ) (em : m ≡ present_in cs) where
-      none : crowded_in 0 cs ≡ fine
-      none = sym ek ∙ ap (λ (b : Bool). cond b (too_many k) fine) (le-ltb k 64 h)
+  module _ (none : crowded_in 0 cs ≡ fine) (m : ℕ) (em : m ≡ present_in cs) where
+    seen : present 0 64 (records1059 sats gs zs) ≡ m
+    seen = present_is (records1059 sats gs zs) cs l.all_counts counts 64 0 refl ∙ sym em
 
-      seen : present 0 64 (records1059 sats gs zs) ≡ m
-      seen = present_is (records1059 sats gs zs) cs l.all_counts counts 64 0 refl ∙ sym em
+    pub sound_all : m ≡ 64 → outcome (too_many 64) s ≡ write_faultless s p (records1059 sats gs zs)
+    sound_all e = all_present s p (records1059 sats gs zs) (crowd ∙ none) (seen ∙ e)
 
-      pub sound_all : m ≡ 64 → outcome (too_many 64) s ≡ write_faultless s p (records1059 sats gs zs)
-      sound_all e = all_present s p (records1059 sats gs zs) (crowd ∙ none) (seen ∙ e)
+    pub sound_counts : (a : ℕ) → a < 64 → get_or cs a 0 < 32
+    sound_counts a b = counts_fit 0 cs none a (omega (arith, l.all_counts))
 
-      pub sound_counts : (a : ℕ) → a < 64 → get_or cs a 0 < 32
-      sound_counts a b = counts_fit 0 cs none a (omega (arith, l.all_counts))
+    module _ (n : m ≡ 64 → ⊥) where
+      pub sound_repeat : {k : ℕ} {carried : List ℕ} → first_repeat same_pair 0 [] (records1059 sats gs zs) ≡ Refused k carried
+          → outcome (Refused k carried) s ≡ write_faultless s p (records1059 sats gs zs)
+      sound_repeat e = some_repeat s p (records1059 sats gs zs) (crowd ∙ none) (λ e. n (sym seen ∙ e)) e
 
-      module _ (n : m ≡ 64 → ⊥) where
-        -- j is the first record that repeats an earlier one, or the number of records
-        module _ (j : ℕ) (ej : cond (ltb j (length sats)) (duplicate j) fine ≡ first_repeat same_pair 0 [] (records1059 sats gs zs)) where
-          pub sound_repeat : j < length sats → outcome (duplicate j) s ≡ write_faultless s p (records1059 sats gs zs)
-          sound_repeat o =
-              some_repeat s p (records1059 sats gs zs) (crowd ∙ none) (λ e. n (sym seen ∙ e)) j
-              (sym ej ∙ ap (λ (b : Bool). cond b (duplicate j) fine) (lt-ltb j (length sats) o))
+      module _ (single : first_repeat same_pair 0 [] (records1059 sats gs zs) ≡ fine) where
+        block : total (fields1059 (records1059 sats gs zs)) ≡ 6 + m * 11 + length sats * 19
+        block = omega (arith, bits_is (records1059 sats gs zs) (low_records sats gs zs d.low), seen, length_records sats gs zs d.signals d.biases)
 
-          module _ (v : length sats ≤ j) where
-            block : total (fields1059 (records1059 sats gs zs)) ≡ 6 + m * 11 + length sats * 19
-            block = omega (arith, bits_is (records1059 sats gs zs) (low_records sats gs zs d.low), seen, length_records sats gs zs d.signals d.biases)
+        clear : refused_faultless (records1059 sats gs zs) ≡ fine
+        clear = nothing s p (records1059 sats gs zs) (crowd ∙ none) (λ e. n (sym seen ∙ e)) single
 
-            clear : refused_faultless (records1059 sats gs zs) ≡ fine
-            clear =
-                nothing s p (records1059 sats gs zs) (crowd ∙ none) (λ e. n (sym seen ∙ e))
-                (sym ej ∙ ap (λ (b : Bool). cond b (duplicate j) fine) (le-ltb j (length sats) v))
+        laid : fields1059 (records1059 sats gs zs) ≡ (bits 6 m ∷ []) ++ satellites_from 0 64 (records1059 sats gs zs)
+        laid = fields_laid (records1059 sats gs zs) ∙ ap (λ (k : ℕ). bits 6 k ∷ satellites_from 0 64 (records1059 sats gs zs)) seen
 
-            laid : fields1059 (records1059 sats gs zs) ≡ (bits 6 m ∷ []) ++ satellites_from 0 64 (records1059 sats gs zs)
-            laid = fields_laid (records1059 sats gs zs) ∙ ap (λ (k : ℕ). bits 6 k ∷ satellites_from 0 64 (records1059 sats gs zs)) seen
+        begun : Left s p (fields1059 (records1059 sats gs zs)) s p ((bits 6 m ∷ []) ++ satellites_from 0 64 (records1059 sats gs zs))
+        begun = left_as laid (left_all s p (fields1059 (records1059 sats gs zs)))
 
-            begun : Left s p (fields1059 (records1059 sats gs zs)) s p ((bits 6 m ∷ []) ++ satellites_from 0 64 (records1059 sats gs zs))
-            begun = left_as laid (left_all s p (fields1059 (records1059 sats gs zs)))
+        pub sound_room : length s * 8 < p + (6 + m * 11 + length sats * 19) → outcome (room (6 + m * 11 + length sats * 19)) s ≡ write_faultless s p (records1059 sats gs zs)
+        unfolding write_faultless
+        sound_room o =
+            ap (λ (k : ℕ). outcome (room k) s) (sym block)
+            ∙ run_room (refused_faultless (records1059 sats gs zs)) s p (fields1059 (records1059 sats gs zs)) clear (omega (arith, block))
 
-            pub sound_room : length s * 8 < p + (6 + m * 11 + length sats * 19) → outcome (room (6 + m * 11 + length sats * 19)) s ≡ write_faultless s p (records1059 sats gs zs)
+        module _ (few : length s ≤ 1023) (o : p + (6 + m * 11 + length sats * 19) ≤ length s * 8) where
+          whole : RoomFor s p (fields1059 (records1059 sats gs zs))
+          whole = record { few = few; within = omega (arith, block) }
+
+          pub sound_first : RoomFor s p (bits 6 m ∷ [])
+          sound_first = left_fits (bits 6 m ∷ []) (satellites_from 0 64 (records1059 sats gs zs)) begun whole
+
+          module _ (t : List ℕ) (q : ℕ) (did : IsPut s p (bits 6 m ∷ []) t q) where
+            rest : Left s p (fields1059 (records1059 sats gs zs)) t q (satellites_from 0 64 (records1059 sats gs zs) ++ [])
+            rest = left_as (sym (append-nil (satellites_from 0 64 (records1059 sats gs zs)))) (left_put (bits 6 m ∷ []) (satellites_from 0 64 (records1059 sats gs zs)) begun did)
+
+            pub sound_rest : RoomFor t q (satellites_from 0 64 (records1059 sats gs zs))
+            sound_rest = left_fits (satellites_from 0 64 (records1059 sats gs zs)) [] rest whole
+
+            pub sound_put : (u : List ℕ) → u ≡ put_all t q (satellites_from 0 64 (records1059 sats gs zs))
+                → outcome (Accepted (p + (6 + m * 11 + length sats * 19))) u ≡ write_faultless s p (records1059 sats gs zs)
             unfolding write_faultless
-            sound_room o =
-                ap (λ (k : ℕ). outcome (room k) s) (sym block)
-                ∙ run_room (refused_faultless (records1059 sats gs zs)) s p (fields1059 (records1059 sats gs zs)) clear (omega (arith, block))
-
-            module _ (few : length s ≤ 1023) (o : p + (6 + m * 11 + length sats * 19) ≤ length s * 8) where
-              whole : RoomFor s p (fields1059 (records1059 sats gs zs))
-              whole = record { few = few; within = omega (arith, block) }
-
-              pub sound_first : RoomFor s p (bits 6 m ∷ [])
-              sound_first = left_fits (bits 6 m ∷ []) (satellites_from 0 64 (records1059 sats gs zs)) begun whole
-
-              module _ (t : List ℕ) (q : ℕ) (did : IsPut s p (bits 6 m ∷ []) t q) where
-                rest : Left s p (fields1059 (records1059 sats gs zs)) t q (satellites_from 0 64 (records1059 sats gs zs) ++ [])
-                rest = left_as (sym (append-nil (satellites_from 0 64 (records1059 sats gs zs)))) (left_put (bits 6 m ∷ []) (satellites_from 0 64 (records1059 sats gs zs)) begun did)
-
-                pub sound_rest : RoomFor t q (satellites_from 0 64 (records1059 sats gs zs))
-                sound_rest = left_fits (satellites_from 0 64 (records1059 sats gs zs)) [] rest whole
-
-                pub sound_put : (u : List ℕ) → u ≡ put_all t q (satellites_from 0 64 (records1059 sats gs zs))
-                    → outcome (Accepted (p + (6 + m * 11 + length sats * 19))) u ≡ write_faultless s p (records1059 sats gs zs)
-                unfolding write_faultless
-                sound_put u e =
-                    ap₂ (λ (k : ℕ) (x : List ℕ). outcome (Accepted (p + k)) x) (sym block)
-                    (left_none (left_put (satellites_from 0 64 (records1059 sats gs zs)) [] rest (record { end = refl; left = e }))).left
-                    ∙ sym (run_put (refused_faultless (records1059 sats gs zs)) s p (fields1059 (records1059 sats gs zs)) clear whole.within)
+            sound_put u e =
+                ap₂ (λ (k : ℕ) (x : List ℕ). outcome (Accepted (p + k)) x) (sym block)
+                (left_none (left_put (satellites_from 0 64 (records1059 sats gs zs)) [] rest (record { end = refl; left = e }))).left
+                ∙ sym (run_put (refused_faultless (records1059 sats gs zs)) s p (fields1059 (records1059 sats gs zs)) clear whole.within)
 
 -- ---- the call
 

@@ -1,14 +1,13 @@
 -- Which answer writing the 1230 block gives. Assumes nothing.
 use mathlib.Core.Path.{◌≡◌, sym, ap, ap₂, ◌∙◌}
-use mathlib.Core.Bool.{Bool, cond}
 use mathlib.Core.List.{List, []}
 use Prim.Native.Nat.{ℕ, ◌+◌, ◌*◌, ◌≤◌, ◌<◌}
 use native.Mathlib.Omega.{arith}
 use borrow.Author.Tests.{lt-ltb, le-ltb, eq-eqb, ne_eqb}
-use lib.Dec.{eqb, ltb}
+use lib.Dec.{eqb}
 use lib.ListN.{length}
 use lib.IntN.{ℤ}
-use Rattle.bits.specs.Told.{Accepted, Refused, and_then, size, signal, duplicate, room}
+use Rattle.bits.specs.Told.{Accepted, Refused, and_then, size, room}
 use Rattle.bits.specs.Outcome.{outcome}
 use Rattle.bits.specs.Fields.{put_all}
 use Rattle.formats.specs.Put.{RoomFor}
@@ -39,29 +38,20 @@ module _ (s : List ℕ) (p : ℕ) (gs : List ℕ) (zs : List ℤ) where
       unfolding refused1230
       many_records m = refusal (rw (le-ltb 1023 (length s) h, eq-eqb (length gs) (length zs) l, lt-ltb 4 (length gs) m))
 
-      -- i is the first place with a signal that the mask lacks, or the length
-      module _ (m : length gs ≤ 4) (i : ℕ) (ei : cond (ltb i (length gs)) (signal i) fine ≡ first_fault fault1230 0 gs) where
+      module _ (m : length gs ≤ 4) where
         by_signals : refused1230 (length s) gs zs ≡ and_then (first_fault fault1230 0 gs) (λ u. first_repeat eqb 0 [] gs)
         unfolding refused1230
         by_signals = rw (le-ltb 1023 (length s) h, eq-eqb (length gs) (length zs) l, le-ltb 4 (length gs) m)
 
-        pub some_unknown : i < length gs → outcome (signal i) s ≡ write1230 s p gs zs
-        some_unknown k =
-            let e : first_fault fault1230 0 gs ≡ signal i = sym ei ∙ ap (λ (b : Bool). cond b (signal i) fine) (lt-ltb i (length gs) k) in
-            refusal (rw (by_signals, e))
+        pub some_unknown : {k : ℕ} {carried : List ℕ} → first_fault fault1230 0 gs ≡ Refused k carried → outcome (Refused k carried) s ≡ write1230 s p gs zs
+        some_unknown e = refusal (rw (by_signals, e))
 
-        -- j is the first place with a signal that stands before it too, or the length
-        module _ (k : length gs ≤ i) (j : ℕ) (ej : cond (ltb j (length gs)) (duplicate j) fine ≡ first_repeat eqb 0 [] gs) where
-          known : first_fault fault1230 0 gs ≡ fine
-          known = sym ei ∙ ap (λ (b : Bool). cond b (signal i) fine) (le-ltb i (length gs) k)
+        module _ (known : first_fault fault1230 0 gs ≡ fine) where
+          pub some_repeat : {k : ℕ} {carried : List ℕ} → first_repeat eqb 0 [] gs ≡ Refused k carried → outcome (Refused k carried) s ≡ write1230 s p gs zs
+          some_repeat e = refusal (rw (by_signals, known, e))
 
-          pub some_repeat : j < length gs → outcome (duplicate j) s ≡ write1230 s p gs zs
-          some_repeat o =
-              let e : first_repeat eqb 0 [] gs ≡ duplicate j = sym ej ∙ ap (λ (b : Bool). cond b (duplicate j) fine) (lt-ltb j (length gs) o) in
-              refusal (rw (by_signals, known, e))
-
-          pub faultless : length gs ≤ j → Faultless1230 gs zs
-          faultless o = record { even = l; most = m; known = known; single = sym ej ∙ ap (λ (b : Bool). cond b (duplicate j) fine) (le-ltb j (length gs) o) }
+          pub faultless : first_repeat eqb 0 [] gs ≡ fine → Faultless1230 gs zs
+          faultless e = record { even = l; most = m; known = known; single = e }
 
     module _ (f : Faultless1230 gs zs) where
       nothing : refused1230 (length s) gs zs ≡ fine

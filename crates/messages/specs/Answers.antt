@@ -1,6 +1,6 @@
 -- What each answer of the code tells. Assumes nothing.
-use Rattle.std.specs.Prelude.{ℕ, ℤ}
-use Rattle.bits.specs.Told.{Told, Accepted, short, range, signal, satellite, too_many, duplicate, room, size, kind}
+use Rattle.std.specs.Prelude.{ℕ, ℤ, Result}
+use Rattle.bits.specs.Told.{Told, Accepted, short, room, size, kind}
 use Rattle.messages.specs.Signals.{Signal, sig, Found, At, None}
 use Rattle.messages.specs.SignalOrder.{less, equal, greater}
 use Rattle.messages.specs.Records.{Counted, counted}
@@ -16,8 +16,8 @@ use Rattle.messages.specs.declared.signals.Order.{Order}
 use Rattle.messages.specs.declared.signals.Order.TheVariants as O
 use Rattle.messages.specs.declared.answer.BlockRead.{BlockRead}
 use Rattle.messages.specs.declared.answer.BlockRead.TheVariants as R
-use Rattle.messages.specs.declared.answer.BlockWritten.{BlockWritten}
-use Rattle.messages.specs.declared.answer.BlockWritten.TheVariants as W
+use Rattle.bits.specs.Refusals.{told}
+use Rattle.bits.specs.declared.refusal.Refusal.{Refusal}
 
 -- a signal, or none
 abbrev pub found_signal : SignalFound → Found Signal
@@ -55,13 +55,5 @@ told_read (R.Short p m) = short p m
 told_read (R.Room n) = room n
 
 -- the bit behind the block that was written; or a refusal
-abbrev pub told_block : BlockWritten → Told ℕ
-told_block (W.End q) = Accepted q
-told_block W.Size = size
-told_block (W.Satellite i) = satellite i
-told_block (W.Signal i) = signal i
-told_block (W.Range i) = range i
-told_block (W.TooMany a) = too_many a
-told_block (W.Duplicate i) = duplicate i
-told_block (W.Room n) = room n
-told_block W.Kind = kind
+abbrev pub told_block : Result ℕ Refusal → Told ℕ
+told_block = told (λ q. q)

@@ -18,6 +18,7 @@ pub mod InOrder
 pub mod Satellites1059
 pub mod I16
 pub mod StepsPen
+pub mod StepsFault
 pub mod StepsColumns
 pub mod StepsRead
 pub mod StepsRead1059

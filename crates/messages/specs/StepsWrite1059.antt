@@ -11,17 +11,8 @@ use Rattle.messages.specs.Writer.{first_repeat, write_run}
 use Rattle.messages.specs.Layout1059.{bias1059, satellite1059, bias_of, with_some, grouped_from}
 use Rattle.messages.specs.Records.{Rec1059, rec1059, records1059}
 use Rattle.messages.specs.Write1059.{crowded, present, same_pair, fields1059, refused1059}
-use Rattle.messages.specs.declared.write1059.Fault.{Fault}
-use Rattle.messages.specs.declared.write1059.Fault.TheVariants as F
 
 -- ---- faults of records
-
--- what a fault of the code tells
-abbrev pub told_fault : Fault → Told Unit
-told_fault F.None = fine
-told_fault (F.Satellite i) = satellite i
-told_fault (F.Signal i) = signal i
-told_fault (F.Range i) = range i
 
 -- record i, where the mask has the edition's signals
 unfoldable pub fault_by : ℕ → ℕ → Rec1059 → Told Unit

@@ -8,7 +8,6 @@ ghost use Rattle.messages.specs.StepsPen.{drawn};
 
 use crate::put;
 use bits::field;
-use bits::field::Unsigned;
 
 // The bit where the next field goes, and the bits before it, of which the last `at % 32` are not stored yet.
 #[derive(Clone, Copy)]
@@ -17,50 +16,52 @@ pub(crate) struct Pen {
     pub bits: u64,
 }
 
-// A pen at bit `start`. Of the data it holds the bits that its first four bytes have before there.
-pub(crate) fn open(bytes: &[u8], start: usize) -> Pen
-    requires { (length bytes.now ≤ 1023) × (start ≤ length bytes.now * 8) }
-    ensures { (result.at ≡ start) × (drawn bytes.now result.at result.bits ≡ bytes.now) }
-{
-    let read = field::read_unsigned(bytes, start / 32 * 32, start % 32);
-    let Unsigned::Value(bits, _) = read else {
-        return Pen { at: start, bits: 0 };
-    };
-    Pen { at: start, bits }
-}
-
-// Writes a number of at most 32 bits behind what is written.
-pub(crate) fn draw(bytes: &mut [u8], pen: Pen, width: usize, number: u64) -> Pen
-    requires { RoomFor (drawn bytes.old pen.at pen.bits) pen.at (bits width number ∷ []) × (width ≤ 32) × (number < 2 ^ width) }
-    ensures { IsPut (drawn bytes.old pen.at pen.bits) pen.at (bits width number ∷ []) (drawn bytes.new result.at result.bits) result.at }
-{
-    let at = pen.at + width;
-    let bits = (pen.bits << width) + number;
-    if pen.at % 32 + width < 32 {
-        return Pen { at, bits };
+impl Pen {
+    // A pen at bit `start`. Of the data it holds the bits that its first four bytes have before there.
+    pub(crate) fn open(bytes: &[u8], start: usize) -> Pen
+        requires { (length bytes.now ≤ 1023) × (start ≤ length bytes.now * 8) }
+        ensures { (result.at ≡ start) × (drawn bytes.now result.at result.bits ≡ bytes.now) }
+    {
+        let read = field::read_unsigned(bytes, start / 32 * 32, start % 32);
+        let Ok((bits, _)) = read else {
+            return Pen { at: start, bits: 0 };
+        };
+        Pen { at: start, bits }
     }
-    put_four(bytes, pen.at / 32 * 4, bits >> (at % 32));
-    Pen { at, bits }
-}
 
-// Writes two numbers of at most 32 bits in all, one behind the other.
-pub(crate) fn two(bytes: &mut [u8], pen: Pen, upper: usize, x: u64, lower: usize, y: u64) -> Pen
-    requires { RoomFor (drawn bytes.old pen.at pen.bits) pen.at (bits upper x ∷ bits lower y ∷ []) × (upper + lower ≤ 32) × (x < 2 ^ upper) × (y < 2 ^ lower) }
-    ensures { IsPut (drawn bytes.old pen.at pen.bits) pen.at (bits upper x ∷ bits lower y ∷ []) (drawn bytes.new result.at result.bits) result.at }
-{
-    draw(bytes, pen, upper + lower, (x << lower) + y)
-}
-
-// Stores what the pen holds. The bits behind it stay.
-pub(crate) fn lift(bytes: &mut [u8], pen: Pen)
-    requires { (length bytes.old ≤ 1023) × (pen.at ≤ length bytes.old * 8) }
-    ensures { bytes.new ≡ drawn bytes.old pen.at pen.bits }
-{
-    let count = pen.at % 32;
-    if count == 0 {
-        return;
+    // Writes a number of at most 32 bits behind what is written.
+    fn draw(self, bytes: &mut [u8], width: usize, number: u64) -> Pen
+        requires { RoomFor (drawn bytes.old self.at self.bits) self.at (bits width number ∷ []) × (width ≤ 32) × (number < 2 ^ width) }
+        ensures { IsPut (drawn bytes.old self.at self.bits) self.at (bits width number ∷ []) (drawn bytes.new result.at result.bits) result.at }
+    {
+        let at = self.at + width;
+        let bits = (self.bits << width) + number;
+        if self.at % 32 + width < 32 {
+            return Pen { at, bits };
+        }
+        put_four(bytes, self.at / 32 * 4, bits >> (at % 32));
+        Pen { at, bits }
     }
-    let _end = put::unsigned(bytes, pen.at - count, count, pen.bits % (1u64 << count));
+
+    // Writes two numbers of at most 32 bits in all, one behind the other.
+    pub(crate) fn two(self, bytes: &mut [u8], upper: usize, x: u64, lower: usize, y: u64) -> Pen
+        requires { RoomFor (drawn bytes.old self.at self.bits) self.at (bits upper x ∷ bits lower y ∷ []) × (upper + lower ≤ 32) × (x < 2 ^ upper) × (y < 2 ^ lower) }
+        ensures { IsPut (drawn bytes.old self.at self.bits) self.at (bits upper x ∷ bits lower y ∷ []) (drawn bytes.new result.at result.bits) result.at }
+    {
+        self.draw(bytes, upper + lower, (x << lower) + y)
+    }
+
+    // Stores what the pen holds. The bits behind it stay.
+    pub(crate) fn lift(self, bytes: &mut [u8])
+        requires { (length bytes.old ≤ 1023) × (self.at ≤ length bytes.old * 8) }
+        ensures { bytes.new ≡ drawn bytes.old self.at self.bits }
+    {
+        let count = self.at % 32;
+        if count == 0 {
+            return;
+        }
+        let _end = put::unsigned(bytes, self.at - count, count, self.bits % (1u64 << count));
+    }
 }
 
 // Writes the four bytes from byte i on, highest first. In this form it is one store.

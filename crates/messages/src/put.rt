@@ -1,11 +1,11 @@
-// Room for a block, and its fields once it is known to fit: then nothing is refused, and the answer is the bit behind the
-// field.
-ghost use Rattle.std.specs.Prelude.{◌≡◌, [], ◌∷◌, ◌+◌, ◌*◌, ◌^◌, ◌≤◌, ◌<◌, leb};
+// Room for a block, its fields once it is known to fit, and the bits of a bias. Then nothing is refused, and the answer is
+// the bit behind the field.
+ghost use Rattle.std.specs.Prelude.{◌≡◌, true, [], ◌∷◌, ◌+◌, ◌*◌, ◌^◌, ◌≤◌, ◌<◌, leb};
 ghost use Rattle.bits.specs.Fields.{bits};
+ghost use Rattle.bits.specs.Signed.{fits_twos, twos_bits};
 ghost use Rattle.formats.specs.Put.{RoomFor, IsPut};
 
 use bits::field;
-use bits::field::Written;
 
 // Whether data of so many bytes has room for so many bits from bit `start` on.
 pub(crate) fn has_room(length: usize, start: usize, bits: usize) -> bool
@@ -24,8 +24,19 @@ pub(crate) fn unsigned(bytes: &mut [u8], at: usize, width: usize, value: u64) ->
     requires { RoomFor bytes.old at (bits width value ∷ []) × (1 ≤ width) × (width ≤ 64) × (value < 2 ^ width) }
     ensures { IsPut bytes.old at (bits width value ∷ []) bytes.new result }
 {
-    let Written::End(next) = field::write_unsigned(bytes, at, width, value) else {
+    let Ok(next) = field::write_unsigned(bytes, at, width, value) else {
         return at;
     };
     next
+}
+
+// The W bits of a bias.
+pub(crate) fn bits_of<const W: usize>(bias: i16) -> u64
+    requires { (1 ≤ W) × (W ≤ 16) × (fits_twos W bias ≡ true) }
+    ensures { (result ≡ twos_bits W bias) × (result < 2 ^ W) }
+{
+    if bias < 0 {
+        return (1u64 << W) - 1 - (-1 - bias) as u64;
+    }
+    bias as u64
 }

@@ -9,7 +9,6 @@ ghost use Rattle.messages.specs.Answers.{told_read};
 
 use crate::answer::{BlockRead, unread, unread_signed};
 use bits::field;
-use bits::field::Unsigned;
 
 // Reads the block from bit `start` on. The first places of the lists take its records, once all of it is read and they have room.
 pub fn read(
@@ -32,7 +31,7 @@ pub fn read(
     }
     // DF387: the number of satellites.
     let read = field::read_unsigned(bytes, start, 6);
-    let Unsigned::Value(n, at) = read else {
+    let Ok((n, at)) = read else {
         return unread(read);
     };
     read_satellites(bytes, at, n as usize, satellites, signals, biases)
@@ -90,12 +89,12 @@ fn measure_satellite(bytes: &[u8], start: usize, i: usize) -> BlockRead
 {
     // DF068: the satellite.
     let read = field::read_unsigned(bytes, start, 6);
-    let Unsigned::Value(_, at) = read else {
+    let Ok((_, at)) = read else {
         return unread(read);
     };
     // DF379: the number of its biases.
     let read = field::read_unsigned(bytes, at, 5);
-    let Unsigned::Value(n, at) = read else {
+    let Ok((n, at)) = read else {
         return unread(read);
     };
     measure_biases(bytes, at, n as usize, i)
@@ -115,7 +114,7 @@ fn measure_biases(bytes: &[u8], start: usize, n: usize, i: usize) -> BlockRead
         };
     }
     let read = field::read_unsigned(bytes, start + whole * 19, 5);
-    let Unsigned::Value(_, at) = read else {
+    let Ok((_, at)) = read else {
         return unread(read);
     };
     unread_signed(field::read_twos(bytes, at, 14))
@@ -165,7 +164,7 @@ fn store_satellite(
 {
     // DF068 and DF379: the satellite, 6 bits, and the number of its biases, 5 bits.
     let read = field::read_unsigned(bytes, start, 11);
-    let Unsigned::Value(both, at) = read else {
+    let Ok((both, at)) = read else {
         return unread(read);
     };
     store_biases(
@@ -224,7 +223,7 @@ fn store_bias(
 {
     // DF380 and DF383: the signal, 5 bits, and the bias, 14 bits.
     let read = field::read_unsigned(bytes, start, 19);
-    let Unsigned::Value(both, end) = read else {
+    let Ok((both, end)) = read else {
         return unread(read);
     };
     satellites[i] = satellite;

@@ -11,7 +11,6 @@ ghost use Rattle.messages.specs.StepsRead.{records_in, Stored, lists1230, put123
 
 use crate::answer::{BlockRead, unread_signed};
 use bits::field;
-use bits::field::Signed;
 
 // The signals of the mask from its top bit, 1C, 1P, 2C and 2P, by their glo numbers.
 pub(crate) const MASK_SIGNALS: [u8; 4] = [2, 3, 8, 9];
@@ -130,7 +129,7 @@ fn store_bias(
 {
     // DF423 to DF426: the bias of 1C, 1P, 2C or 2P.
     let read = field::read_twos(bytes, start, 16);
-    let Signed::Value(bias, end) = read else {
+    let Ok((bias, end)) = read else {
         return unread_signed(read);
     };
     signals[i] = signal;

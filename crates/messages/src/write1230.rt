@@ -1,110 +1,94 @@
 // Writing the bias block of message 1230.
-ghost use Rattle.std.specs.Prelude.{◌≡◌, true, cond, [], ◌+◌, ◌*◌, ◌^◌, ◌≤◌, ◌<◌, length, eqb, ltb};
-ghost use Rattle.bits.specs.Told.{signal as signal_at, duplicate};
-ghost use Rattle.bits.specs.Signed.{fits_twos, twos_bits};
+ghost use Rattle.std.specs.Prelude.{◌≡◌, true, cond, [], ◌+◌, ◌*◌, ◌^◌, ◌≤◌, ◌<◌, length, eqb};
 ghost use Rattle.bits.specs.Outcome.{outcome};
 ghost use Rattle.bits.specs.Field.{put_field};
 ghost use Rattle.bits.specs.Fields.{put_all};
 ghost use Rattle.messages.specs.Answers.{told_block};
 ghost use Rattle.formats.specs.Put.{RoomFor};
-ghost use Rattle.formats.specs.Written.{fine, first_fault};
+ghost use Rattle.formats.specs.Written.{first_fault};
 ghost use Rattle.messages.specs.Records.{records1230};
-ghost use Rattle.messages.specs.Layout1230.{mask_signals, of_signal};
+ghost use Rattle.messages.specs.Layout1230.{of_signal};
 ghost use Rattle.messages.specs.Writer.{first_repeat};
 ghost use Rattle.messages.specs.Write1230.{is_in, fault1230, fields1230, write1230};
+ghost use Rattle.messages.specs.StepsFault.{told_fault};
 ghost use Rattle.messages.specs.StepsWrite1230.{bias_fields1230, joined, Faultless1230};
 
-use crate::answer::BlockWritten;
 use crate::put;
 use crate::read1230::MASK_SIGNALS;
+use bits::refusal::Refusal;
 
 // Writes the block of the records from bit `start` on, in the order of the mask, whatever order the list has. Record i is
 // signal i and bias i of two lists of one length.
-pub fn write(bytes: &mut [u8], start: usize, signals: &[u8], biases: &[i16]) -> BlockWritten
+pub fn write(
+    bytes: &mut [u8],
+    start: usize,
+    signals: &[u8],
+    biases: &[i16],
+) -> Result<usize, Refusal>
     ensures { outcome (told_block result) bytes.new ≡ write1230 bytes.old start signals.now biases.now }
 {
     if 1023 < bytes.len() {
-        return BlockWritten::Size;
+        return Err(Refusal::Size);
     }
     if signals.len() != biases.len() {
-        return BlockWritten::Size;
+        return Err(Refusal::Size);
     }
     if 4 < signals.len() {
-        return BlockWritten::Size;
+        return Err(Refusal::Size);
     }
     write_few(bytes, start, signals, biases)
 }
 
 // Writes the block of at most four records. It stands alone for speed: a call that many refusals come before is one that
 // the compiler holds for rare, and does not copy into its caller.
-fn write_few(bytes: &mut [u8], start: usize, signals: &[u8], biases: &[i16]) -> BlockWritten
+fn write_few(
+    bytes: &mut [u8],
+    start: usize,
+    signals: &[u8],
+    biases: &[i16],
+) -> Result<usize, Refusal>
     requires { (length bytes.old ≤ 1023) × (length signals.now ≡ length biases.now) × (length signals.now ≤ 4) }
     ensures { outcome (told_block result) bytes.new ≡ write1230 bytes.old start signals.now biases.now }
 {
-    let n = signals.len();
-    let unknown = first_unknown(signals);
-    if unknown < n {
-        return BlockWritten::Signal(unknown);
-    }
-    let repeat = first_repeat(signals);
-    if repeat < n {
-        return BlockWritten::Duplicate(repeat);
-    }
-    let bits = 4 + n * 16;
+    first_unknown(signals)?;
+    first_repeat(signals)?;
+    let bits = 4 + signals.len() * 16;
     if !put::has_room(bytes.len(), start, bits) {
-        return BlockWritten::Room(bits);
+        return Err(Refusal::Room(bits));
     }
     put_block(bytes, start, signals, biases);
-    BlockWritten::End(start + bits)
+    Ok(start + bits)
 }
 
-// The index of the first signal that the mask lacks, or the length.
-fn first_unknown(signals: &[u8]) -> usize
-    ensures { cond (ltb result (length signals.now)) (signal_at result) fine ≡ first_fault fault1230 0 signals.now }
+// Signal with the index of the first signal that the mask lacks.
+fn first_unknown(signals: &[u8]) -> Result<(), Refusal>
+    ensures { told_fault result ≡ first_fault fault1230 0 signals.now }
 {
-    let mut i: usize = 0;
-    while i < signals.len() {
-        if !of_mask(signals[i]) {
-            return i;
+    for (i, signal) in signals.iter().enumerate() {
+        if !is_in(*signal, &MASK_SIGNALS) {
+            return Err(Refusal::Signal(i));
         }
-        i += 1;
     }
-    i
+    Ok(())
 }
 
-// Whether the mask has a bit for the signal.
-fn of_mask(signal: u8) -> bool
-    ensures { result ≡ is_in signal mask_signals }
+// Duplicate with the index of the first signal that stands at an earlier place too.
+fn first_repeat(signals: &[u8]) -> Result<(), Refusal>
+    ensures { told_fault result ≡ first_repeat eqb 0 [] signals.now }
 {
-    is_in(signal, &MASK_SIGNALS)
-}
-
-// The index of the first signal that stands at an earlier place too, or the length.
-fn first_repeat(signals: &[u8]) -> usize
-    ensures { cond (ltb result (length signals.now)) (duplicate result) fine ≡ first_repeat eqb 0 [] signals.now }
-{
-    let mut i: usize = 0;
-    while i < signals.len() {
-        if is_in(signals[i], &signals[0..i]) {
-            return i;
+    for (i, signal) in signals.iter().enumerate() {
+        if is_in(*signal, &signals[0..i]) {
+            return Err(Refusal::Duplicate(i));
         }
-        i += 1;
     }
-    i
+    Ok(())
 }
 
 // Whether the signal is in the list.
 fn is_in(signal: u8, signals: &[u8]) -> bool
     ensures { result ≡ is_in signal signals.now }
 {
-    let mut i: usize = 0;
-    while i < signals.len() {
-        if signals[i] == signal {
-            return true;
-        }
-        i += 1;
-    }
-    false
+    signals.contains(&signal)
 }
 
 // The mask, and the biases in its order.
@@ -113,11 +97,11 @@ fn put_block(bytes: &mut [u8], start: usize, signals: &[u8], biases: &[i16])
     ensures { bytes.new ≡ put_all bytes.old start (fields1230 (records1230 signals.now biases.now)) }
 {
     let none = Joined { mask: 0, word: 0 };
-    let a = join(none, 2, signals, biases);
-    let b = join(a, 3, signals, biases);
-    let c = join(b, 8, signals, biases);
-    let all = join(c, 9, signals, biases);
-    put_joined(bytes, start, signals.len(), all);
+    let a = none.with(2, signals, biases);
+    let b = a.with(3, signals, biases);
+    let c = b.with(8, signals, biases);
+    let all = c.with(9, signals, biases);
+    all.put(bytes, start, signals.len());
 }
 
 // Bits of a mask, and the biases of their signals as one number, the last one's 16 bits lowest.
@@ -127,50 +111,39 @@ struct Joined {
     word: u64,
 }
 
-// With the bit of one more signal below those of the mask, and its bias below the others.
-fn join(above: Joined, signal: u8, signals: &[u8], biases: &[i16]) -> Joined
-    requires { Faultless1230 signals.now biases.now × (above.mask < 8) × (above.word < 2 ^ 48) }
-    ensures { (result.mask ≡ above.mask * 2 + cond (is_in signal signals.now) 1 0) × (result.word ≡ joined above.word (bias_fields1230 (of_signal signal (records1230 signals.now biases.now)))) }
-{
-    let mut i: usize = 0;
-    while i < signals.len() {
-        if signals[i] == signal {
-            let word = word_of(biases[i]);
-            return Joined {
-                mask: above.mask * 2 + 1,
-                word: (above.word << 16) + word,
-            };
+impl Joined {
+    // With the bit of one more signal below those of the mask, and its bias below the others.
+    fn with(self, signal: u8, signals: &[u8], biases: &[i16]) -> Joined
+        requires { Faultless1230 signals.now biases.now × (self.mask < 8) × (self.word < 2 ^ 48) }
+        ensures { (result.mask ≡ self.mask * 2 + cond (is_in signal signals.now) 1 0) × (result.word ≡ joined self.word (bias_fields1230 (of_signal signal (records1230 signals.now biases.now)))) }
+    {
+        for (i, other) in signals.iter().enumerate() {
+            if *other == signal {
+                let word = put::bits_of::<16>(biases[i]);
+                return Joined {
+                    mask: self.mask * 2 + 1,
+                    word: (self.word << 16) + word,
+                };
+            }
         }
-        i += 1;
+        Joined {
+            mask: self.mask * 2,
+            word: self.word,
+        }
     }
-    Joined {
-        mask: above.mask * 2,
-        word: above.word,
-    }
-}
 
-// Writes the mask and the n biases. Up to three of them and the mask are one field to write; four are cut in two.
-fn put_joined(bytes: &mut [u8], start: usize, n: usize, all: Joined)
-    requires { (length bytes.old ≤ 1023) × (start + (4 + n * 16) ≤ length bytes.old * 8) × (n ≤ 4) × (all.mask < 16) × (all.word < 2 ^ (n * 16)) }
-    ensures { bytes.new ≡ put_field bytes.old start (4 + n * 16) (all.mask * 2 ^ (n * 16) + all.word) }
-{
-    if n < 4 {
-        let number = (all.mask << (n * 16)) + all.word;
-        let _end = put::unsigned(bytes, start, 4 + n * 16, number);
-        return;
+    // Writes the mask and the n biases. Up to three of them and the mask are one field to write; four are cut in two.
+    fn put(self, bytes: &mut [u8], start: usize, n: usize)
+        requires { (length bytes.old ≤ 1023) × (start + (4 + n * 16) ≤ length bytes.old * 8) × (n ≤ 4) × (self.mask < 16) × (self.word < 2 ^ (n * 16)) }
+        ensures { bytes.new ≡ put_field bytes.old start (4 + n * 16) (self.mask * 2 ^ (n * 16) + self.word) }
+    {
+        if n < 4 {
+            let number = (self.mask << (n * 16)) + self.word;
+            let _end = put::unsigned(bytes, start, 4 + n * 16, number);
+            return;
+        }
+        let upper = (self.mask << 32) + (self.word >> 32);
+        let at = put::unsigned(bytes, start, 36, upper);
+        let _end = put::unsigned(bytes, at, 32, self.word % 4294967296);
     }
-    let upper = (all.mask << 32) + (all.word >> 32);
-    let at = put::unsigned(bytes, start, 36, upper);
-    let _end = put::unsigned(bytes, at, 32, all.word % 4294967296);
-}
-
-// The 16 bits of a bias.
-fn word_of(bias: i16) -> u64
-    requires { fits_twos 16 bias ≡ true }
-    ensures { (result ≡ twos_bits 16 bias) × (result < 2 ^ 16) }
-{
-    if bias < 0 {
-        return 65535 - (-1 - bias) as u64;
-    }
-    bias as u64
 }

@@ -6,9 +6,9 @@ use Rattle.messages.proofs.put.unsigned.Goals as goal
 pub returns-in_default : goal.returns-in_default
 returns-in_default c =
     let w = c.write_unsigned in
-    is_put_else _ _ _ _ _ c.requires.0 c.requires.1 c.requires.2 (lt-ltb _ _ c.requires.3) w.result _ w.ensures _ c.in_default.not-End
+    is_put_else _ _ _ _ _ c.requires.0 c.requires.1 c.requires.2 (lt-ltb _ _ c.requires.3) w.result _ w.ensures _ c.in_default.not-Ok
 
 pub returns : goal.returns
 returns c =
     let w = c.write_unsigned in
-    is_put_one _ _ _ _ _ c.requires.0 c.requires.1 c.requires.2 (lt-ltb _ _ c.requires.3) w.result _ w.ensures _ c.in-End.is
+    is_put_one _ _ _ _ _ c.requires.0 c.requires.1 c.requires.2 (lt-ltb _ _ c.requires.3) w.result _ w.ensures _ c.in-Ok.is

@@ -12,13 +12,13 @@ returns-then-n-whole c = λ a. biases_fit _ (omega arith) a _ _ _ (omega arith)
 pub returns-in_default : goal.returns-in_default
 returns-in_default c =
     let r = c.read_unsigned-read in
-    let k = unsigned_cut _ _ 5 (omega arith) (omega arith) (omega arith) r.result r.ensures c.in_default.not-Value c.unread.ensures in
+    let k = unsigned_cut _ _ 5 (omega arith) (omega arith) (omega arith) r.result r.ensures c.in_default.not-Ok c.unread.ensures in
     let l = cut_behind _ _ 5 (omega arith) (omega arith) (omega arith) k.0 in
     λ a. no_signal _ (omega arith) a _ _ _ _ (omega arith) (omega arith) (omega arith) k.1
 
 pub returns : goal.returns
 returns c =
-    let w = value_within _ _ 5 (sym c.read_unsigned-read.ensures ∙ ap told_unsigned c.in-Value.is) in
+    let w = value_within _ _ 5 (sym c.read_unsigned-read.ensures ∙ ap told_unsigned c.in-Ok.is) in
     let r = c.read_twos in
     let k = twos_behind _ _ 14 (omega arith) (omega arith) (omega arith) (omega arith) r.result r.ensures c.unread_signed.ensures in
     λ a. no_bias _ (omega arith) a _ _ _ _ (omega arith) (omega arith) (omega arith) w.1 k

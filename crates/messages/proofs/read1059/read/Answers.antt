@@ -18,15 +18,15 @@ returns-then-satellites-biases c = uneven_2 _ _ _ _ _ (omega arith) c.if-satelli
 pub returns-in_default : goal.returns-in_default
 returns-in_default c =
     let r = c.read_unsigned-read in
-    let k = unsigned_cut _ _ 6 (omega arith) (omega arith) (omega arith) r.result r.ensures c.in_default.not-Value c.unread.ensures in
+    let k = unsigned_cut _ _ 6 (omega arith) (omega arith) (omega arith) r.result r.ensures c.in_default.not-Ok c.unread.ensures in
     count_cut _ _ _ _ _ (omega arith) c.if-satellites-signals.false c.if-satellites-biases.false k.0 k.1
 
 pub read_satellites-requires : goal.read_satellites-requires
 read_satellites-requires c =
-    let t = value_within _ _ 6 (sym c.read_unsigned-read.ensures ∙ ap told_unsigned c.in-Value.is) in
+    let t = value_within _ _ 6 (sym c.read_unsigned-read.ensures ∙ ap told_unsigned c.in-Ok.is) in
     (omega arith, omega arith, omega arith, omega arith)
 
 pub returns : goal.returns
 returns c =
     c.read_satellites.ensures
-    ∙ count_read _ _ _ _ _ (omega arith) c.if-satellites-signals.false c.if-satellites-biases.false (sym c.read_unsigned-read.ensures ∙ ap told_unsigned c.in-Value.is)
+    ∙ count_read _ _ _ _ _ (omega arith) c.if-satellites-signals.false c.if-satellites-biases.false (sym c.read_unsigned-read.ensures ∙ ap told_unsigned c.in-Ok.is)

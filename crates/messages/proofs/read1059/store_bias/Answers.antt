@@ -12,36 +12,36 @@ pub returns-in_default : goal.returns-in_default
 returns-in_default c =
     let r = c.requires in
     let u = c.read_unsigned-read in
-    absurd (not_refused _ _ 19 r.few (omega arith) (omega arith) (bias_within _ r.few _ _ r.suffices.is) u.result u.ensures c.in_default.not-Value)
+    absurd (not_refused _ _ 19 r.few (omega arith) (omega arith) (bias_within _ r.few _ _ r.suffices.is) u.result u.ensures c.in_default.not-Ok)
 
 pub bounds-satellites-i : goal.bounds-satellites-i
 bounds-satellites-i c =
     let r = c.requires in
-    let e = sym c.read_unsigned-read.ensures ∙ ap told_unsigned c.in-Value.is in
+    let e = sym c.read_unsigned-read.ensures ∙ ap told_unsigned c.in-Ok.is in
     let h = suffices_one r.suffices (bias_read _ r.few _ _ e) in
     omega arith
 
 pub overflow_cast-signals : goal.overflow_cast-signals
 overflow_cast-signals c =
-    let t = value_within _ _ 19 (sym c.read_unsigned-read.ensures ∙ ap told_unsigned c.in-Value.is) in
+    let t = value_within _ _ 19 (sym c.read_unsigned-read.ensures ∙ ap told_unsigned c.in-Ok.is) in
     omega arith
 
 pub bounds-signals-i : goal.bounds-signals-i
 bounds-signals-i c =
     let r = c.requires in
-    let e = sym c.read_unsigned-read.ensures ∙ ap told_unsigned c.in-Value.is in
+    let e = sym c.read_unsigned-read.ensures ∙ ap told_unsigned c.in-Ok.is in
     let h = suffices_one r.suffices (bias_read _ r.few _ _ e) in
     omega arith
 
 pub bounds-biases-i : goal.bounds-biases-i
 bounds-biases-i c =
     let r = c.requires in
-    let e = sym c.read_unsigned-read.ensures ∙ ap told_unsigned c.in-Value.is in
+    let e = sym c.read_unsigned-read.ensures ∙ ap told_unsigned c.in-Ok.is in
     let h = suffices_one r.suffices (bias_read _ r.few _ _ e) in
     omega arith
 
 pub returns : goal.returns
 returns c =
     let r = c.requires in
-    let e = sym c.read_unsigned-read.ensures ∙ ap told_unsigned c.in-Value.is in
+    let e = sym c.read_unsigned-read.ensures ∙ ap told_unsigned c.in-Ok.is in
     bias_stored _ r.few _ _ _ _ _ _ e refl (same_14 _ (omega arith) c.bias_of.ensures)

@@ -1,7 +1,5 @@
 -- `messages::write1059::first_fault` meets its contract. The loop's invariant: no record before `i` has a fault. Assumes nothing.
 use mathlib.Core.Path.{◌≡◌}
-use Prim.Native.Nat.{◌-◌, ◌≤◌}
-use lib.ListN.{length}
 use Rattle.formats.specs.Written.{first_fault}
 use Rattle.messages.specs.Records.{records1059}
 use Rattle.messages.specs.StepsWrite1059.{fault_by}
@@ -10,8 +8,4 @@ use Rattle.messages.proofs.write1059.first_fault.Given as goal
 
 abbrev pub invariant-loop-i : goal.invariant-loop-i
 invariant-loop-i l =
-    (l.i ≤ length l.satellites)
-    × (first_fault (fault_by l.mask) 0 (records1059 l.satellites l.signals l.biases) ≡ first_fault (fault_by l.mask) l.i (from1059 l.satellites l.signals l.biases l.i))
-
-abbrev pub decreases-loop-i : goal.decreases-loop-i
-decreases-loop-i l = length l.satellites - l.i
+    first_fault (fault_by l.mask) 0 (records1059 l.satellites l.signals l.biases) ≡ first_fault (fault_by l.mask) l.i (from1059 l.satellites l.signals l.biases l.i)

@@ -1,6 +1,6 @@
 -- `messages::write1059::write_known` meets its contract. Each answer is the one that the sizes and the first fault ask for. Assumes nothing.
-use mathlib.Core.Path.{ap, ◌∙◌}
-use Rattle.messages.specs.StepsWrite1059.{told_fault}
+use mathlib.Core.Path.{◌∙◌}
+use Rattle.bits.proofs.RefusalLaws.{passed_on_with}
 use Rattle.messages.proofs.FaultLaws.{first_fault_is, sound}
 use Rattle.messages.proofs.Write1059Laws.{long_data, uneven_signals, uneven_biases, many_records, some_fault, no_fault}
 use Rattle.messages.proofs.write1059.write_known.Goals as goal
@@ -25,35 +25,24 @@ returns-then-n-gt1953 c =
     let a = c.args in
     many_records a.edition a.bytes.now a.start a.satellites.now a.signals.now a.biases.now c.if-bytes-gt1023.false c.if-n-signals.false c.if-n-biases.false c.if-n-gt1953.true
 
-pub write_faultless-requires : goal.write_faultless-requires
-write_faultless-requires c =
-    let a = c.args in (
-      c.if-bytes-gt1023.false,
-      sound a.edition a.satellites.now a.signals.now a.biases.now c.if-n-signals.false c.if-n-biases.false c.if-n-gt1953.false
-          (first_fault_is a.edition _ _ _ c.mask_1059.ensures c.first_fault.ensures ∙ ap told_fault c.in-None.is),
-    )
-
-pub returns-in-Satellite : goal.returns-in-Satellite
-returns-in-Satellite c =
+pub returns-in_err-first_fault : goal.returns-in_err-first_fault
+returns-in_err-first_fault c =
     let a = c.args in
-    some_fault a.edition a.bytes.now a.start a.satellites.now a.signals.now a.biases.now c.if-bytes-gt1023.false c.if-n-signals.false c.if-n-biases.false c.if-n-gt1953.false
-    (first_fault_is a.edition _ _ _ c.mask_1059.ensures c.first_fault.ensures ∙ ap told_fault c.in-Satellite.is)
+    passed_on_with (λ q. q) _ _ _ c.from_residual.ensures.1
+    ∙ some_fault a.edition a.bytes.now a.start a.satellites.now a.signals.now a.biases.now c.if-bytes-gt1023.false c.if-n-signals.false c.if-n-biases.false c.if-n-gt1953.false
+    (first_fault_is a.edition _ _ _ c.mask_1059.ensures c.in_err-first_fault.ensures)
 
-pub returns-in-Signal : goal.returns-in-Signal
-returns-in-Signal c =
+pub invariant_of-records : goal.invariant_of-records
+invariant_of-records c =
     let a = c.args in
-    some_fault a.edition a.bytes.now a.start a.satellites.now a.signals.now a.biases.now c.if-bytes-gt1023.false c.if-n-signals.false c.if-n-biases.false c.if-n-gt1953.false
-    (first_fault_is a.edition _ _ _ c.mask_1059.ensures c.first_fault.ensures ∙ ap told_fault c.in-Signal.is)
+    record {
+      faultless = sound a.edition a.satellites.now a.signals.now a.biases.now c.if-n-signals.false c.if-n-biases.false c.if-n-gt1953.false
+          (first_fault_is a.edition _ _ _ c.mask_1059.ensures c.in_ok-first_fault.ensures);
+    }
 
-pub returns-in-Range : goal.returns-in-Range
-returns-in-Range c =
+pub returns : goal.returns
+returns c =
     let a = c.args in
-    some_fault a.edition a.bytes.now a.start a.satellites.now a.signals.now a.biases.now c.if-bytes-gt1023.false c.if-n-signals.false c.if-n-biases.false c.if-n-gt1953.false
-    (first_fault_is a.edition _ _ _ c.mask_1059.ensures c.first_fault.ensures ∙ ap told_fault c.in-Range.is)
-
-pub returns-in-None : goal.returns-in-None
-returns-in-None c =
-    let a = c.args in
-    c.write_faultless.ensures
+    c.write.ensures
     ∙ no_fault a.edition a.bytes.now a.start a.satellites.now a.signals.now a.biases.now c.if-bytes-gt1023.false c.if-n-signals.false c.if-n-biases.false c.if-n-gt1953.false
-    (first_fault_is a.edition _ _ _ c.mask_1059.ensures c.first_fault.ensures ∙ ap told_fault c.in-None.is)
+    (first_fault_is a.edition _ _ _ c.mask_1059.ensures c.in_ok-first_fault.ensures)

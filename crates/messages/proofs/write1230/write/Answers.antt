@@ -1,5 +1,4 @@
 -- `messages::write1230::write` meets its contract. Sizes are refused, and lists within them are written. Assumes nothing.
-use native.Mathlib.Omega.{arith}
 use Rattle.messages.proofs.Write1230Laws.{long_data, uneven_lists, many_records}
 use Rattle.messages.proofs.write1230.write.Goals as goal
 
@@ -17,9 +16,3 @@ pub returns-then-signals-gt4 : goal.returns-then-signals-gt4
 returns-then-signals-gt4 c =
     let a = c.args in
     many_records a.bytes.now a.start a.signals.now a.biases.now c.if-bytes-gt1023.false c.if-signals-biases.false c.if-signals-gt4.true
-
-pub write_few-requires : goal.write_few-requires
-write_few-requires c = (omega arith, c.if-signals-biases.false, omega arith)
-
-pub returns : goal.returns
-returns c = c.write_few.ensures
