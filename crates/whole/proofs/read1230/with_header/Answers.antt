@@ -1,4 +1,4 @@
--- `whole::read1230::with_header` meets its contract. Each arm tells what the block tells. Assumes nothing.
+-- Each arm tells what the block tells. Assumes nothing.
 use mathlib.Core.Path.{sym, ap}
 use Rattle.messages.specs.Answers.{told_read}
 use Rattle.whole.specs.Whole.{headed}
