@@ -11,7 +11,6 @@ use Rattle.bits.specs.Field.{Reading, reading}
 use Rattle.messages.specs.Reader.{room_for}
 use Rattle.messages.specs.Records.{Counted, counted}
 use Rattle.messages.specs.StepsRead.{counts, records_in, Suffices, Stored}
-use Rattle.messages.proofs.ArmLaws.{IsRefused}
 use Rattle.messages.proofs.PassLaws.{counted_tells, refused_tells}
 
 -- where the count is at most n, n places suffice for the records
@@ -30,11 +29,9 @@ module _ {A S X : Type 0} (put : ℕ → List A → S → S) (outcome : Told Cou
         → left (Accepted r) ≡ outcome (Accepted (counted (length r.value) r.next)) (put 0 r.value old)
 
   module _ {old : S} {n : ℕ} {t : Told (Reading (List A))} {call : X} (c : Call old n t call) where
-    pub refuses : {answer : Told Counted} → IsRefused answer → answer ≡ counts 0 t → outcome answer old ≡ call
-    refuses r e =
-        let d : t ≡ Refused r.number r.carried = refused_tells 0 t (sym r.is ∙ e) in
-        ap (λ (x : Told Counted). outcome x old) r.is
-        ∙ sym (c.is ∙ ap (λ (u : Told (Reading (List A))). c.left (and_then u (room_for n))) d ∙ c.refused r.number r.carried)
+    pub refuses : {m : ℕ} {carried : List ℕ} → Refused m carried ≡ counts 0 t → outcome (Refused m carried) old ≡ call
+    refuses {m} {carried} e =
+        sym (c.is ∙ ap (λ (u : Told (Reading (List A))). c.left (and_then u (room_for n))) (refused_tells 0 t e) ∙ c.refused m carried)
 
     pub lacks_room : {j q : ℕ} → Accepted (counted j q) ≡ counts 0 t → n < j → outcome (room j) old ≡ call
     lacks_room {j} e h =

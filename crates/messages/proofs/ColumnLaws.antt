@@ -1,85 +1,44 @@
--- Looking for a line of a table, line by line and down its columns; and the systems and editions that have no table. Assumes nothing.
+-- Looking for a row of a table; and the systems and editions that have no table. Assumes nothing.
 use mathlib.Core.Path.{◌≡◌, refl}
 use mathlib.Core.Bool.{Bool, true, false, cond, ◌&&◌}
 use mathlib.Core.List.{List, [], ◌∷◌}
-use Prim.Native.Nat.{ℕ, zero, suc, ◌≤◌, ◌+◌, ◌<◌}
+use Prim.Native.Nat.{ℕ, zero, suc, ◌≤◌}
 use native.Mathlib.Omega.{arith}
-use native.Mathlib.Numerals.{add-one}
-use lib.ListN.{get_or-eq_default, length, get_or, drop}
+use lib.ListN.{get_or-eq_default}
 use lib.Dec.{eqb}
-use lib.Seq.{drop-cons, drop-length}
-use Rattle.bits.specs.Told.{Accepted, kind}
-use Rattle.messages.specs.Signals.{sig, Entry, entry, At, None, signal_of, number_of, tables, table_of}
+use Rattle.std.specs.Prelude.{Some, option_map}
+use Rattle.std.specs.List.{find}
+use Rattle.bits.specs.Told.{Told, Accepted, Refused, kind, and_then}
+use Rattle.messages.specs.Signals.{Signal, sig, Found, At, signal_of, number_of, tables, table_of}
 use Rattle.messages.specs.Signals1059.{is_edition, signals1059, named_signal1059, named_number1059}
-use Rattle.messages.specs.StepsColumns.{has, line_of, signal_at, number_at, Even, entries}
-use Rattle.messages.specs.declared.signals.Wanted.{Wanted}
-use Rattle.messages.specs.declared.signals.Wanted.TheVariants.{Number, Signal}
+use Rattle.messages.specs.StepsColumns.{entries, signal_at, has_number, has_signal, signal_in, number_in}
+use Rattle.messages.specs.StepsEdition.{numbered}
+use Rattle.messages.specs.Answers.{found_signal, found_number}
+use Rattle.messages.specs.declared.signals.Row.{Row}
 
--- ---- line by line
+-- ---- row by row
 
-pub line_here : (e : Entry) (t : List Entry) (w : Wanted) → has e w ≡ true → line_of (e ∷ t) w ≡ At e
-unfolding line_of
-line_here e t w h = simp h
-
-pub line_past : (e : Entry) (t : List Entry) (w : Wanted) → has e w ≡ false → line_of (e ∷ t) w ≡ line_of t w
-unfolding line_of
-line_past e t w h = simp h
-
-pub line_end : (w : Wanted) → line_of [] w ≡ None
-unfolding line_of
-line_end w = refl
-
--- the line that has a number tells its signal
-pub signal_by_line : (t : List Entry) (n : ℕ) → signal_of t n ≡ signal_at (line_of t (Number n))
-unfolding signal_of line_of has
-signal_by_line [] n = refl
-signal_by_line (entry m b l ∷ t) n = go (eqb m n) (signal_by_line t n)
+-- the first row with a number tells its signal
+pub signal_by_row : (rows : List Row) (n : ℕ) → found_signal (signal_in rows n) ≡ signal_of (entries rows) n
+unfolding signal_of
+signal_by_row [] n = refl
+signal_by_row (r ∷ rows) n = go (eqb r.0 n) (signal_by_row rows n)
   where
-    go : (q : Bool) → signal_of t n ≡ signal_at (line_of t (Number n)) → cond q (At (sig b l)) (signal_of t n) ≡ signal_at (cond q (At (entry m b l)) (line_of t (Number n)))
+    go : (q : Bool) → found_signal (signal_in rows n) ≡ signal_of (entries rows) n
+        → found_signal (option_map (λ (x : Row). signal_at x) (cond q (Some r) (find (has_number n) rows))) ≡ cond q (At (sig r.1 r.2)) (signal_of (entries rows) n)
     go true e = refl
     go false e = e
 
--- the line that has a signal tells its number
-pub number_by_line : (t : List Entry) (c k : ℕ) → number_of t (sig c k) ≡ number_at (line_of t (Signal c k))
-unfolding number_of line_of has
-number_by_line [] c k = refl
-number_by_line (entry n b l ∷ t) c k = go (eqb b c && eqb l k) (number_by_line t c k)
+-- the first row with a signal tells its number
+pub number_by_row : (rows : List Row) (b l : ℕ) → found_number (number_in rows b l) ≡ number_of (entries rows) (sig b l)
+unfolding number_of
+number_by_row [] b l = refl
+number_by_row (r ∷ rows) b l = go (eqb r.1 b && eqb r.2 l) (number_by_row rows b l)
   where
-    go : (q : Bool) → number_of t (sig c k) ≡ number_at (line_of t (Signal c k)) → cond q (At n) (number_of t (sig c k)) ≡ number_at (cond q (At (entry n b l)) (line_of t (Signal c k)))
+    go : (q : Bool) → found_number (number_in rows b l) ≡ number_of (entries rows) (sig b l)
+        → found_number (option_map (λ (x : Row). x.0) (cond q (Some r) (find (has_signal b l) rows))) ≡ cond q (At r.0) (number_of (entries rows) (sig b l))
     go true e = refl
     go false e = e
-
--- ---- down the columns
-
--- the entries from line i on
-unfoldable pub from : List ℕ → List ℕ → List ℕ → ℕ → List Entry
-from ns bs ls i = entries (drop i ns) (drop i bs) (drop i ls)
-
-pub from_start : (ns bs ls : List ℕ) → from ns bs ls 0 ≡ entries ns bs ls
-unfolding from
-from_start ns bs ls = refl
-
-pub from_line : (ns bs ls : List ℕ) → Even ns bs ls → (i : ℕ) → i < length ns → from ns bs ls i ≡ entry (get_or ns i 0) (get_or bs i 0) (get_or ls i 0) ∷ from ns bs ls (i + 1)
-unfolding from entries
-from_line ns bs ls e i h = rw (add-one, drop-cons ns i 0 h, drop-cons bs i 0 (omega arith), drop-cons ls i 0 (omega arith))
-
-pub from_end : (ns bs ls : List ℕ) (i : ℕ) → i ≡ length ns → from ns bs ls i ≡ []
-unfolding from entries
-from_end ns bs ls i e = rw (e, drop-length)
-
--- ---- a walk that looks for a line, at line i
-
-module _ (ns bs ls : List ℕ) (i : ℕ) (w : Wanted) where
-  pub line_found : Even ns bs ls → i < length ns → has (entry (get_or ns i 0) (get_or bs i 0) (get_or ls i 0)) w ≡ true
-      → line_of (from ns bs ls i) w ≡ At (entry (get_or ns i 0) (get_or bs i 0) (get_or ls i 0))
-  line_found e h f = rw (from_line ns bs ls e i h) (line_here _ _ w f)
-
-  pub line_on : Even ns bs ls → i < length ns → has (entry (get_or ns i 0) (get_or bs i 0) (get_or ls i 0)) w ≡ false
-      → line_of (from ns bs ls i) w ≡ line_of (from ns bs ls (i + 1)) w
-  line_on e h f = rw (from_line ns bs ls e i h) (line_past _ _ w f)
-
-  pub no_line : i ≡ length ns → line_of (from ns bs ls i) w ≡ None
-  no_line h = rw (from_end ns bs ls i h) (line_end w)
 
 -- ---- systems and editions that have no table
 
@@ -102,21 +61,44 @@ no_edition (suc zero) g h = absurd (g refl)
 no_edition (suc (suc zero)) g h = absurd (h refl)
 no_edition (suc (suc (suc e))) g h = refl
 
--- ---- looking up by edition
+-- ---- by edition
 
-module _ (edition : ℕ) where
-  pub not_named : (n : ℕ) → is_edition edition ≡ false → kind ≡ named_signal1059 edition n
+-- what is asked of the table of an edition, if it is there
+abbrev pub signal_named : ℕ → ℕ → Told (Found Signal)
+signal_named n e = Accepted (signal_of (signals1059 e) n)
+
+abbrev pub number_named : ℕ → ℕ → ℕ → Told (Found ℕ)
+number_named b l e = Accepted (number_of (signals1059 e) (sig b l))
+
+module _ (e : ℕ) where
+  pub signal_by_edition : (n : ℕ) → and_then (numbered e) (signal_named n) ≡ named_signal1059 e n
   unfolding named_signal1059
-  not_named n e = rw e
+  signal_by_edition n = go (is_edition e)
+    where
+      go : (q : Bool) → and_then (cond q (Accepted e) kind) (signal_named n) ≡ cond q (signal_named n e) kind
+      go true = refl
+      go false = refl
 
-  pub named : (n : ℕ) → is_edition edition ≡ true → Accepted (signal_at (line_of (signals1059 edition) (Number n))) ≡ named_signal1059 edition n
-  unfolding named_signal1059
-  named n e = rw (e, signal_by_line)
-
-  pub not_numbered : (band letter : ℕ) → is_edition edition ≡ false → kind ≡ named_number1059 edition (sig band letter)
+  pub number_by_edition : (b l : ℕ) → and_then (numbered e) (number_named b l) ≡ named_number1059 e (sig b l)
   unfolding named_number1059
-  not_numbered band letter e = rw e
+  number_by_edition b l = go (is_edition e)
+    where
+      go : (q : Bool) → and_then (cond q (Accepted e) kind) (number_named b l) ≡ cond q (number_named b l e) kind
+      go true = refl
+      go false = refl
 
-  pub numbered : (band letter : ℕ) → is_edition edition ≡ true → Accepted (number_at (line_of (signals1059 edition) (Signal band letter))) ≡ named_number1059 edition (sig band letter)
-  unfolding named_number1059
-  numbered band letter e = rw (e, number_by_line)
+  -- there is no such edition where it is refused, and with Kind
+  pub edition_refused : {m : ℕ} {carried : List ℕ} → ◌≡◌ {A = Told ℕ} (Refused m carried) (numbered e) → (is_edition e ≡ false) × ◌≡◌ {A = Told ℕ} (Refused m carried) kind
+  edition_refused {m} {carried} h = go (is_edition e) refl h
+    where
+      go : (q : Bool) → is_edition e ≡ q → ◌≡◌ {A = Told ℕ} (Refused m carried) (cond q (Accepted e) kind) → (is_edition e ≡ false) × ◌≡◌ {A = Told ℕ} (Refused m carried) kind
+      go true f h = let z : ◌≡◌ {A = ℕ} 0 1 = cc in absurd (omega arith)
+      go false f h = (f, h)
+
+  -- and where it is accepted it is the one with this number
+  pub edition_known : {n : ℕ} → Accepted n ≡ numbered e → (is_edition e ≡ true) × (n ≡ e)
+  edition_known {n} h = go (is_edition e) refl h
+    where
+      go : (q : Bool) → is_edition e ≡ q → Accepted n ≡ cond q (Accepted e) kind → (is_edition e ≡ true) × (n ≡ e)
+      go true f h = (f, cc)
+      go false f h = let z : ◌≡◌ {A = ℕ} 0 1 = cc in absurd (omega arith)

@@ -14,34 +14,31 @@ use Rattle.messages.specs.Read1230.{read1230}
 use Rattle.messages.specs.Write1059.{write1059}
 use Rattle.messages.specs.Write1230.{write1230}
 use Rattle.messages.specs.Answers.{found_signal, found_number, told_signal, told_number, told_order, told_read, told_block}
-use Rattle.messages.specs.declared.signals.SignalFound.{SignalFound}
-use Rattle.messages.specs.declared.signals.NumberFound.{NumberFound}
-use Rattle.messages.specs.declared.signals1059.Signal1059.{Signal1059}
-use Rattle.messages.specs.declared.signals1059.Number1059.{Number1059}
-use Rattle.messages.specs.declared.signals.Order.{Order}
-use Rattle.messages.specs.declared.answer.BlockRead.{BlockRead}
-use Rattle.std.specs.Prelude.{Result}
+use Rattle.messages.specs.declared.answer.Records.{Records}
+use Rattle.std.specs.Prelude.{Option, Result}
+use Rattle.std.specs.declared.cmp.Ordering.{Ordering}
+use Rattle.messages.specs.declared.signals.Signal.{Signal}
 use Rattle.bits.specs.declared.refusal.Refusal.{Refusal}
 use Rattle.bits.proofs.ToldLaws.{only}
 use Rattle.messages.proofs.ToldLaws.{signal_one_to_one, number_one_to_one, same_signal_found, same_number_found, same_order, only_read, only_block}
 
 -- ---- signals
 
-pub only_signal_of : (system number : ℕ) {x y : SignalFound} → found_signal x ≡ signal_of (table_of system) number → found_signal y ≡ signal_of (table_of system) number → x ≡ y
+pub only_signal_of : (system number : ℕ) {x y : Option Signal} → found_signal x ≡ signal_of (table_of system) number → found_signal y ≡ signal_of (table_of system) number → x ≡ y
 only_signal_of system number p q = same_signal_found _ _ (p ∙ sym q)
 
-pub only_number_of : (system band letter : ℕ) {x y : NumberFound} → found_number x ≡ number_of (table_of system) (sig band letter)
+pub only_number_of : (system band letter : ℕ) {x y : Option ℕ} → found_number x ≡ number_of (table_of system) (sig band letter)
     → found_number y ≡ number_of (table_of system) (sig band letter) → x ≡ y
 only_number_of system band letter p q = same_number_found _ _ (p ∙ sym q)
 
-pub only_compare : (system band1 letter1 band2 letter2 : ℕ) {x y : Order} → told_order x ≡ order (table_of system) (sig band1 letter1) (sig band2 letter2)
+pub only_compare : (system band1 letter1 band2 letter2 : ℕ) {x y : Ordering} → told_order x ≡ order (table_of system) (sig band1 letter1) (sig band2 letter2)
     → told_order y ≡ order (table_of system) (sig band1 letter1) (sig band2 letter2) → x ≡ y
 only_compare system band1 letter1 band2 letter2 p q = same_order _ _ (p ∙ sym q)
 
-pub only_signal_of_1059 : (edition number : ℕ) {x y : Signal1059} → told_signal x ≡ named_signal1059 edition number → told_signal y ≡ named_signal1059 edition number → x ≡ y
+pub only_signal_of_1059 : (edition number : ℕ) {x y : Result (Option Signal) Refusal} → told_signal x ≡ named_signal1059 edition number → told_signal y ≡ named_signal1059 edition number → x ≡ y
 only_signal_of_1059 edition number = only told_signal signal_one_to_one (named_signal1059 edition number)
 
-pub only_number_of_1059 : (edition band letter : ℕ) {x y : Number1059} → told_number x ≡ named_number1059 edition (sig band letter)
+pub only_number_of_1059 : (edition band letter : ℕ) {x y : Result (Option ℕ) Refusal} → told_number x ≡ named_number1059 edition (sig band letter)
     → told_number y ≡ named_number1059 edition (sig band letter) → x ≡ y
 only_number_of_1059 edition band letter = only told_number number_one_to_one (named_number1059 edition (sig band letter))
 
@@ -61,11 +58,11 @@ only_hundredths_1230 raw p q = p ∙ sym q
 
 -- ---- bias blocks
 
-pub only_read_1059 : (s : List ℕ) (p : ℕ) (a b : List ℕ) (c : List ℤ) {x y : BlockRead} {l m : List ℕ × List ℕ × List ℤ}
+pub only_read_1059 : (s : List ℕ) (p : ℕ) (a b : List ℕ) (c : List ℤ) {x y : Result Records Refusal} {l m : List ℕ × List ℕ × List ℤ}
     → outcome (told_read x) l ≡ read1059 s p a b c → outcome (told_read y) m ≡ read1059 s p a b c → (x ≡ y) × (l ≡ m)
 only_read_1059 s p a b c = only_read (read1059 s p a b c)
 
-pub only_read_1230 : (s : List ℕ) (p : ℕ) (b : List ℕ) (c : List ℤ) {x y : BlockRead} {l m : List ℕ × List ℤ}
+pub only_read_1230 : (s : List ℕ) (p : ℕ) (b : List ℕ) (c : List ℤ) {x y : Result Records Refusal} {l m : List ℕ × List ℤ}
     → outcome (told_read x) l ≡ read1230 s p b c → outcome (told_read y) m ≡ read1230 s p b c → (x ≡ y) × (l ≡ m)
 only_read_1230 s p b c = only_read (read1230 s p b c)
 

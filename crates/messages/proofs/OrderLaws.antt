@@ -3,12 +3,15 @@
 use mathlib.Core.Path.{◌≡◌, refl, ◌∙◌, sym}
 use mathlib.Core.List.{List}
 use mathlib.Core.Logic.{◌⊎◌, inl, inr}
-use mathlib.Core.Bool.{Bool, true, false}
+use mathlib.Core.Bool.{Bool, true, false, cond}
 use Prim.Native.Nat.{ℕ, ◌<◌, ◌≤◌}
 use native.Mathlib.Omega.{arith}
 use borrow.Author.Tests.{lt-ltb, le-ltb, eq-eqb, ne_eqb, ltb-true, ltb-false, eqb-true, eqb-false}
 use lib.Dec.{ltb, eqb}
 use lib.IntN.{ℤ, neg_ℤ}
+use Rattle.std.proofs.Common.{nat_cmp, Less, Equal, Greater}
+use Rattle.std.specs.Ordering.{ordering_then}
+use Rattle.messages.specs.Answers.{told_order}
 use Rattle.messages.specs.SignalOrder.{less, equal, greater, compared, by_band, ranked, order}
 use Rattle.messages.specs.Signals.{Signal, sig, Entry, At, None, number_of, Found, signal_of, Undoes}
 use Rattle.messages.proofs.UndoLaws.{number_then_signal}
@@ -36,6 +39,27 @@ same_band b l c m e = simp (eq-eqb b c e)
 pub other_band : (b l c m : ℕ) → (b ≡ c → ⊥) → by_band (sig b l) (sig c m) ≡ compared b c
 unfolding by_band
 other_band b l c m e = simp (ne_eqb b c e)
+
+-- ---- the order of the code
+
+pub told_compared : (m n : ℕ) → told_order (nat_cmp m n) ≡ compared m n
+unfolding compared
+told_compared m n = go (ltb m n) (eqb m n)
+  where
+    go : (p q : Bool) → told_order (cond p Less (cond q Equal Greater)) ≡ cond p less (cond q equal greater)
+    go true q = refl
+    go false true = refl
+    go false false = refl
+
+pub told_by_band : (b l c m : ℕ) → told_order (ordering_then (nat_cmp b c) (nat_cmp l m)) ≡ by_band (sig b l) (sig c m)
+unfolding by_band compared
+told_by_band b l c m = go (ltb b c) refl (eqb b c) refl
+  where
+    go : (p : Bool) → ltb b c ≡ p → (q : Bool) → eqb b c ≡ q → told_order (ordering_then (nat_cmp b c) (nat_cmp l m)) ≡ by_band (sig b l) (sig c m)
+    go true f true g = let h = ltb-true b c f in let k = eqb-true b c g in absurd (omega arith)
+    go true f false g = rw (f, g)
+    go false f true g = rw (f, g) (told_compared l m)
+    go false f false g = rw (f, g)
 
 -- ---- two signals by a table
 

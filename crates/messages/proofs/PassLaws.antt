@@ -73,9 +73,9 @@ module _ {A : Type 0} (i : ℕ) where
       (ap (λ (k : ℕ). i + k) (length-append xs r.value) ∙ sym (add_assoc i (length xs) (length r.value)))
   counts_before xs (Refused n carried) = refl
 
-  pub counts_short : {t : Told (Reading (List A))} {answer : Told Counted} {carried : List ℕ} → t ≡ Refused 1 carried → answer ≡ Refused 1 carried → answer ≡ counts i t
+  pub counts_refused : {t : Told (Reading (List A))} {n : ℕ} {carried : List ℕ} → t ≡ Refused n carried → Refused n carried ≡ counts i t
   unfolding counts
-  counts_short e a = a ∙ sym (ap (counts i) e)
+  counts_refused e = sym (ap (counts i) e)
 
   pub counts_none : (t : Told (Reading (List A))) (p : ℕ) → t ≡ Accepted (reading [] p) → Accepted (counted i p) ≡ counts i t
   unfolding counts
@@ -112,14 +112,6 @@ module _ {A : Type 0} (i : ℕ) where
           room = omega (arith, h.room, s.count, v, ap length b.value ∙ length-append b.first.value b.second.value);
         }
 
-    -- a step whose records have places is not refused
-    pub not_stopped : {n m : ℕ} {carried : List ℕ} → Suffices i (chain t rest) n → Refused m carried ≡ counts i t → ⊥
-    not_stopped h e =
-        let b = both_read t rest h.is in
-        let r = refused_tells t e in
-        let z : ◌≡◌ {A = ℕ} 0 1 = cc in
-        omega arith
-
     -- storing what both read is storing what the step reads, and then the rest
     module _ {S : Type 0} (put : ℕ → List A → S → S) (put_on : (i : ℕ) (xs ys : List A) (l : S) → put i (xs ++ ys) l ≡ put (i + length xs) ys (put i xs l)) where
       pub stored_on : {n j q : ℕ} {old new : S} → Suffices i (chain t rest) n → Stored put i t (Accepted (counted j q)) old new
@@ -155,17 +147,9 @@ module _ {A : Type 0} {i : ℕ} {t : Told (Reading (List A))} where
     unfolding counts records_in
     stored_one {old = old} e d = record { says = rw e; lists = d ∙ ap (λ (u : Told (Reading (List A))). put i (records_in u) old) (sym e) }
 
-    pub stored_short : {answer : Told Counted} {carried : List ℕ} {old : S} → t ≡ Refused 1 carried → answer ≡ Refused 1 carried → put i [] old ≡ old → Stored put i t answer old old
-    unfolding records_in
-    stored_short {old = old} e a d =
-        record { says = counts_short i e a; lists = sym d ∙ ap (λ (u : Told (Reading (List A))). put i (records_in u) old) (sym e) }
-
     -- a pass that is stored, said otherwise
     pub stored_as : {u : Told (Reading (List A))} {answer : Told Counted} {old new : S} → u ≡ t → Stored put i t answer old new → Stored put i u answer old new
     stored_as e w = rw e w
-
-    pub stored_answer : {answer other : Told Counted} {old new : S} → answer ≡ other → Stored put i t answer old new → Stored put i t other old new
-    stored_answer e w = rw e at w
 
 -- ---- n times the same: a turn at which k are done
 

@@ -27,8 +27,8 @@ use Rattle.messages.proofs.Layout1059Laws.{satellite_good, many_same, behind_cou
 use Rattle.messages.proofs.Fits1059Laws.{good, own_length}
 use Rattle.messages.proofs.CallLaws.{Call}
 use Rattle.messages.proofs.StoreLaws.{put1059_front}
-use Rattle.messages.proofs.PassLaws.{counts_short, counted_tells, stored_one}
-use Rattle.messages.proofs.RunLaws.{Single, Run, many_run, run_fits, run_cut}
+use Rattle.messages.proofs.PassLaws.{counts_refused, counted_tells, stored_one}
+use Rattle.messages.proofs.RunLaws.{Single, single_within, Run, many_run, run_fits, run_cut}
 
 -- ---- one bias
 
@@ -87,11 +87,7 @@ module _ (s : List ℕ) (few : length s ≤ 1023) (a : ℕ) where
 
   -- where a bias is accepted, its 19 bits are there
   pub bias_within : (p : ℕ) {r : Reading (List Rec1059)} → bias_at s a p ≡ Accepted r → p + 19 ≤ length s * 8
-  bias_within p {r} e = go (dec_lt (length s * 8) (p + 19))
-    where
-      go : Dec (length s * 8 < p + 19) → p + 19 ≤ length s * 8
-      go (yes h) = let d = one_bias.cuts p h in let z : ◌≡◌ {A = ℕ} 0 1 = cc in absurd (omega arith)
-      go (no h) = omega arith
+  bias_within p e = single_within 19 (length s * 8) (cut_bias s) one_bias p e
 
   -- a bias out of one look at its 19 bits: the signal above, the bias below
   pub bias_read : (p : ℕ) {v q : ℕ} → read_unsigned s p 19 ≡ Accepted (reading v q) → bias_at s a p ≡ Accepted (reading (rec1059 a (v / 2 ^ 14) (twos_of 14 (v % 2 ^ 14)) ∷ []) q)
@@ -122,28 +118,28 @@ module _ (s : List ℕ) (few : length s ≤ 1023) (a : ℕ) where
 
     -- m are there, and the signal of the next is not
     pub no_signal : (m : ℕ) → m < n → p + m * 19 ≤ length s * 8 → length s * 8 < p + m * 19 + 5
-        → {answer : Told Counted} → answer ≡ cut_at (length s) (p + m * 19) 5 → answer ≡ counts i (many (bias_at s a) n p)
+        → cut_at (length s) (p + m * 19) 5 ≡ counts i (many (bias_at s a) n p)
     no_signal m l h c =
-        counts_short i
+        counts_refused i
         (run_cut 19 (length s * 8) (cut_bias s) (biases_run n) m p l h (omega arith) ∙ ap (λ (c : List ℕ). Refused 1 c) (cut_signal s (p + m * 19) c))
 
     -- m are there and the signal of the next, but not its bias
     pub no_bias : (m : ℕ) → m < n → p + m * 19 + 5 ≤ length s * 8 → length s * 8 < p + m * 19 + 19
-        → {answer : Told Counted} {q : ℕ} → q ≡ p + m * 19 + 5 → answer ≡ cut_at (length s) q 14 → answer ≡ counts i (many (bias_at s a) n p)
-    no_bias m l h c e k =
-        counts_short i
+        → {q : ℕ} → q ≡ p + m * 19 + 5 → cut_at (length s) q 14 ≡ counts i (many (bias_at s a) n p)
+    no_bias m l h c e =
+        ap (λ (q : ℕ). cut_at (length s) q 14) e
+        ∙ counts_refused i
         (run_cut 19 (length s * 8) (cut_bias s) (biases_run n) m p l (omega arith) c ∙ ap (λ (c : List ℕ). Refused 1 c) (cut_behind s (p + m * 19) h))
-        (k ∙ ap (λ (q : ℕ). cut_at (length s) q 14) e)
 
 -- ---- one satellite
 
 module _ (s : List ℕ) (p : ℕ) where
-  pub satellite_cut : {carried : List ℕ} → read_unsigned s p 6 ≡ Refused 1 carried → satellite_at s p ≡ Refused 1 carried
+  pub satellite_cut : {m : ℕ} {carried : List ℕ} → read_unsigned s p 6 ≡ Refused m carried → satellite_at s p ≡ Refused m carried
   unfolding satellite_at
   satellite_cut e = rw e
 
   module _ {a q : ℕ} (e : read_unsigned s p 6 ≡ Accepted (reading a q)) where
-    pub satellite_cut_2 : {carried : List ℕ} → read_unsigned s q 5 ≡ Refused 1 carried → satellite_at s p ≡ Refused 1 carried
+    pub satellite_cut_2 : {m : ℕ} {carried : List ℕ} → read_unsigned s q 5 ≡ Refused m carried → satellite_at s p ≡ Refused m carried
     unfolding satellite_at
     satellite_cut_2 f = rw (e, f)
 
@@ -193,7 +189,7 @@ few_more s p few i {j} {q} e =
 
 -- ---- the block, by its satellite count
 
-block_cut : (s : List ℕ) (p : ℕ) {carried : List ℕ} → read_unsigned s p 6 ≡ Refused 1 carried → read_block1059 s p ≡ Refused 1 carried
+block_cut : (s : List ℕ) (p : ℕ) {m : ℕ} {carried : List ℕ} → read_unsigned s p 6 ≡ Refused m carried → read_block1059 s p ≡ Refused m carried
 unfolding read_block1059
 block_cut s p e = rw e
 
@@ -222,9 +218,9 @@ module _ (s : List ℕ) (p : ℕ) (sats gs : List ℕ) (zs : List ℤ) where
 
     module _ (d : length sats ≡ length gs) (e : length sats ≡ length zs) where
       -- the number of satellites is cut short
-      pub count_cut : {answer : Told Counted} {carried : List ℕ} → read_unsigned s p 6 ≡ Refused 1 carried → answer ≡ Refused 1 carried → outcome answer (sats, gs, zs) ≡ read1059 s p sats gs zs
+      pub count_cut : {m : ℕ} {carried : List ℕ} → read_unsigned s p 6 ≡ Refused m carried → outcome (Refused m carried) (sats, gs, zs) ≡ read1059 s p sats gs zs
       unfolding read1059
-      count_cut k a = rw (le-ltb _ _ few, eq-eqb _ _ d, eq-eqb _ _ e, block_cut s p k, a)
+      count_cut k = rw (le-ltb _ _ few, eq-eqb _ _ d, eq-eqb _ _ e, block_cut s p k)
 
       -- it is there, and its satellites lie behind it
       pub count_read : {n q : ℕ} → read_unsigned s p 6 ≡ Accepted (reading n q) → read_satellites s n q sats gs zs ≡ read1059 s p sats gs zs

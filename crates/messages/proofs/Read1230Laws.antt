@@ -26,10 +26,9 @@ use Rattle.messages.specs.StepsRead.{Lists1230, lists1230, put1230, counts, Suff
 use Rattle.messages.specs.Writer.{keep}
 use Rattle.messages.proofs.Layout1230Laws.{biases_none, biases_next}
 use Rattle.messages.proofs.CallLaws.{Call}
-use Rattle.messages.proofs.StoreLaws.{put1230_front, put1230_on, Doing, left_as, step_suffices, step_read, step_stored}
-use Rattle.messages.proofs.ArmLaws.{IsRefused}
-use Rattle.messages.proofs.PassLaws.{chain, counts_short, stored_one}
-use Rattle.messages.proofs.RunLaws.{Single, Run, none, more, run_fits, run_cut}
+use Rattle.messages.proofs.StoreLaws.{put1230_front, put1230_on, Doing, left_as, step_suffices, step_stored}
+use Rattle.messages.proofs.PassLaws.{chain, counts_refused, stored_one}
+use Rattle.messages.proofs.RunLaws.{Single, single_within, Run, none, more, run_fits, run_cut}
 
 -- ---- the mask
 
@@ -151,6 +150,10 @@ module _ (s : List ℕ) (few : length s ≤ 1023) where
         cuts = λ p h. bias_cut s g p (reads_short (twos_of 16) s p 16 few (omega arith) (omega arith) h);
       }
 
+  -- where a bias is accepted, its 16 bits are there
+  pub bias_within : (g p : ℕ) {r : Reading (List Rec1230)} → biases_at s (g ∷ []) p ≡ Accepted r → p + 16 ≤ length s * 8
+  bias_within g p e = single_within 16 (length s * 8) (cut_bias s) (one_bias g) p e
+
   biases_run : (gs : List ℕ) → Run 16 (length s * 8) (cut_bias s) (length gs) (biases_at s gs)
   biases_run [] = none (λ p. biases_none s p)
   biases_run (g ∷ gs) = more (one_bias g) (λ p. biases_on s g p gs) (biases_run gs)
@@ -165,9 +168,9 @@ module _ (s : List ℕ) (few : length s ≤ 1023) where
 
     -- m are there, and the next is not
     pub no_bias : (m : ℕ) → m < n → p + m * 16 ≤ length s * 8 → length s * 8 < p + m * 16 + 16
-        → {answer : Told Counted} → answer ≡ cut_at (length s) (p + m * 16) 16 → answer ≡ counts 0 (biases_at s gs p)
+        → cut_at (length s) (p + m * 16) 16 ≡ counts 0 (biases_at s gs p)
     no_bias m l h c =
-        counts_short 0 (run_cut 16 (length s * 8) (cut_bias s) (biases_run gs) m p (omega arith) h c)
+        counts_refused 0 (run_cut 16 (length s * 8) (cut_bias s) (biases_run gs) m p (omega arith) h c)
 
 -- ---- a turn of the second pass at signal k, whose bit is set; l is the code's list of the signals
 
@@ -187,17 +190,14 @@ module _ (s l : List ℕ) (k m p : ℕ) (is : l ≡ mask_signals) (h : k < 4) (b
     pub signal_suffices : Suffices i (biases_at s (get_or l k 0 ∷ []) p) n
     signal_suffices = step_suffices put1230 i (biases_at s (get_or l k 0 ∷ []) p) later (left_as put1230 d signal_left)
 
-    pub signal_read : {answer : Told Counted} → IsRefused answer → answer ≡ counts i (biases_at s (get_or l k 0 ∷ []) p) → ⊥
-    signal_read r e = step_read put1230 i (biases_at s (get_or l k 0 ∷ []) p) later (left_as put1230 d signal_left) r e
-
-    pub signal_stored : {answer : Told Counted} {j q : ℕ} {new : Lists1230} → Stored put1230 i (biases_at s (get_or l k 0 ∷ []) p) answer now new → answer ≡ Accepted (counted j q)
+    pub signal_stored : {j q : ℕ} {new : Lists1230} → Stored put1230 i (biases_at s (get_or l k 0 ∷ []) p) (Accepted (counted j q)) now new
         → Doing put1230 first n whole old j (biases_at s (masked (drop (k + 1) mask_signals) m) q) new
     unfolding later
-    signal_stored w e = step_stored put1230 i (biases_at s (get_or l k 0 ∷ []) p) later (left_as put1230 d signal_left) put1230_on w e
+    signal_stored w = step_stored put1230 i (biases_at s (get_or l k 0 ∷ []) p) later (left_as put1230 d signal_left) put1230_on w
 
 -- ---- the block, by its mask
 
-block_cut : (s : List ℕ) (p : ℕ) {carried : List ℕ} → read_unsigned s p 4 ≡ Refused 1 carried → read_block1230 s p ≡ Refused 1 carried
+block_cut : (s : List ℕ) (p : ℕ) {m : ℕ} {carried : List ℕ} → read_unsigned s p 4 ≡ Refused m carried → read_block1230 s p ≡ Refused m carried
 unfolding read_block1230
 block_cut s p e = rw e
 
@@ -226,9 +226,9 @@ module _ (s : List ℕ) (p : ℕ) (gs : List ℕ) (zs : List ℤ) where
 
     module _ (e : length gs ≡ length zs) where
       -- the mask is cut short
-      pub mask_cut : {answer : Told Counted} {carried : List ℕ} → read_unsigned s p 4 ≡ Refused 1 carried → answer ≡ Refused 1 carried → outcome answer (gs, zs) ≡ read1230 s p gs zs
+      pub mask_cut : {m : ℕ} {carried : List ℕ} → read_unsigned s p 4 ≡ Refused m carried → outcome (Refused m carried) (gs, zs) ≡ read1230 s p gs zs
       unfolding read1230
-      mask_cut k a = rw (le-ltb _ _ few, eq-eqb _ _ e, block_cut s p k, a)
+      mask_cut k = rw (le-ltb _ _ few, eq-eqb _ _ e, block_cut s p k)
 
       -- it is there, and its biases lie behind it
       pub mask_read : {m q : ℕ} → read_unsigned s p 4 ≡ Accepted (reading m q) → read_masked s m q gs zs ≡ read1230 s p gs zs

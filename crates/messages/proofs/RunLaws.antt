@@ -3,6 +3,7 @@ use mathlib.Core.Path.{◌≡◌, refl, sym, ap, ap₂, ◌∙◌}
 use mathlib.Core.List.{List, [], ◌∷◌}
 use Prim.Native.Nat.{ℕ, zero, suc, ◌+◌, ◌*◌, ◌≤◌, ◌<◌}
 use native.Mathlib.Nat.{add-zero, zero-mul, suc-mul}
+use native.Mathlib.Decide.{dec_lt}
 use native.Mathlib.Omega.{arith}
 use Rattle.bits.specs.Told.{Told, Accepted, Refused}
 use Rattle.bits.specs.Field.{Reading, reading}
@@ -16,6 +17,14 @@ module _ {A : Type 0} (w most : ℕ) (cut : ℕ → List ℕ) where
     pub record_of : ℕ → A
     pub fits : (p : ℕ) → p + w ≤ most → f p ≡ Accepted (reading (record_of p ∷ []) (p + w))
     pub cuts : (p : ℕ) → most < p + w → f p ≡ Refused 1 (cut p)
+
+  -- a record that is accepted lies within
+  pub single_within : {f : ℕ → Told (Reading (List A))} → Single f → (p : ℕ) {r : Reading (List A)} → f p ≡ Accepted r → p + w ≤ most
+  single_within {f} o p {r} e = go (dec_lt most (p + w))
+    where
+      go : Dec (most < p + w) → p + w ≤ most
+      go (yes h) = let d = o.cuts p h in let z : ◌≡◌ {A = ℕ} 0 1 = cc in absurd (omega arith)
+      go (no h) = omega arith
 
   -- n such records, one behind the other
   pub data Run : ℕ → (ℕ → Told (Reading (List A))) → Type 0 where

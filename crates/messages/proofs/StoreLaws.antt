@@ -12,8 +12,7 @@ use Rattle.bits.specs.Field.{Reading, reading}
 use Rattle.bits.proofs.OntoLaws.{over_zero}
 use Rattle.messages.specs.Records.{Rec1059, satellite_of, signal_of1059, bias_of1059, Rec1230, signal_of1230, bias_of1230, Counted, counted}
 use Rattle.messages.specs.StepsRead.{Lists1059, lists1059, put1059, Lists1230, lists1230, put1230, counts, records_in, Suffices, Stored, many}
-use Rattle.messages.proofs.ArmLaws.{IsRefused}
-use Rattle.messages.proofs.PassLaws.{chain, counts_none, counts_on, suffices_on, suffices_first, not_stopped, stored_on, stored_answer, many_left, many_none}
+use Rattle.messages.proofs.PassLaws.{chain, counts_none, counts_on, suffices_on, suffices_first, stored_on, many_left, many_none}
 
 -- ---- one list
 
@@ -108,17 +107,13 @@ module _ {A S : Type 0} (put : ℕ → List A → S → S) where
       pub step_suffices : Suffices i t n
       step_suffices = suffices_first i t later d.suffices
 
-      pub step_read : {answer : Told Counted} → IsRefused answer → answer ≡ counts i t → ⊥
-      step_read r e = not_stopped i t later d.suffices (sym r.is ∙ e)
-
       pub step_stored : ((i : ℕ) (xs ys : List A) (l : S) → put i (xs ++ ys) l ≡ put (i + length xs) ys (put i xs l))
-          → {answer : Told Counted} {j q : ℕ} {new : S} → Stored put i t answer now new → answer ≡ Accepted (counted j q) → Doing first n whole old j (later q) new
-      step_stored put_on w e =
-          let v = stored_answer put e w in
+          → {j q : ℕ} {new : S} → Stored put i t (Accepted (counted j q)) now new → Doing first n whole old j (later q) new
+      step_stored put_on w =
           record {
-            says = d.says ∙ counts_on i t later v.says;
-            lists = d.lists ∙ stored_on i t later put put_on d.suffices v;
-            suffices = suffices_on i t later d.suffices v.says;
+            says = d.says ∙ counts_on i t later w.says;
+            lists = d.lists ∙ stored_on i t later put put_on d.suffices w;
+            suffices = suffices_on i t later d.suffices w.says;
           }
 
     -- a turn of m like steps, of which k are done
@@ -126,13 +121,9 @@ module _ {A S : Type 0} (put : ℕ → List A → S → S) where
       pub turn_suffices : k < m → Suffices i (f p) n
       turn_suffices h = step_suffices i (f p) (many f (m - (k + 1))) (left_as d (many_left f m k p h))
 
-      pub turn_read : k < m → {answer : Told Counted} → IsRefused answer → answer ≡ counts i (f p) → ⊥
-      turn_read h r e = step_read i (f p) (many f (m - (k + 1))) (left_as d (many_left f m k p h)) r e
-
       pub turn_stored : k < m → ((i : ℕ) (xs ys : List A) (l : S) → put i (xs ++ ys) l ≡ put (i + length xs) ys (put i xs l))
-          → {answer : Told Counted} {j q : ℕ} {new : S} → Stored put i (f p) answer now new → answer ≡ Accepted (counted j q)
-          → Doing first n whole old j (many f (m - (k + 1)) q) new
-      turn_stored h put_on w e = step_stored i (f p) (many f (m - (k + 1))) (left_as d (many_left f m k p h)) put_on w e
+          → {j q : ℕ} {new : S} → Stored put i (f p) (Accepted (counted j q)) now new → Doing first n whole old j (many f (m - (k + 1)) q) new
+      turn_stored h put_on w = step_stored i (f p) (many f (m - (k + 1))) (left_as d (many_left f m k p h)) put_on w
 
       pub turns_done : m ≤ k → ((i : ℕ) (l : S) → put i [] l ≡ l) → Stored put first whole (Accepted (counted i p)) old now
       turns_done h put_none = done d put_none (many_none f m k p h)

@@ -20,6 +20,7 @@ pub mod I16
 pub mod StepsPen
 pub mod StepsFault
 pub mod StepsColumns
+pub mod StepsEdition
 pub mod StepsRead
 pub mod StepsRead1059
 pub mod StepsRead1230

@@ -1,49 +1,36 @@
--- A table of the code: its columns of numbers, bands and letters, looking for a line, and its numbers as a mask. No promise to a caller rests on this file. Assumes nothing.
-use Rattle.std.specs.Prelude.{◌≡◌, List, [], ◌∷◌, Bool, cond, ◌&&◌, ℕ, ◌+◌, ◌/◌, ◌%◌, ◌^◌, ltb, eqb, length}
-use Rattle.messages.specs.Signals.{Signal, sig, Entry, entry, Found, At, None}
-use Rattle.messages.specs.declared.signals.Wanted.{Wanted}
-use Rattle.messages.specs.declared.signals.Wanted.TheVariants as W
-use Rattle.messages.specs.declared.signals.Line.{Line}
-use Rattle.messages.specs.declared.signals.Line.TheVariants as L
+-- A table of the code: its rows as entries, looking for a row, and its numbers as a mask. No promise to a caller rests on this file. Assumes nothing.
+use Rattle.std.specs.Prelude.{List, [], ◌∷◌, map, Bool, ◌&&◌, Option, option_map, ℕ, ◌+◌, ◌/◌, ◌%◌, ◌^◌, ltb, eqb}
+use Rattle.std.specs.List.{find}
+use Rattle.messages.specs.Signals.{Entry, entry}
+use Rattle.messages.specs.declared.signals.Row.{Row}
+use Rattle.messages.specs.declared.signals.Signal.{Signal}
 
--- the columns have one length
-pub record Even (ns bs ls : List ℕ) : Type 0 where
-  pub bands : length bs ≡ length ns
-  pub letters : length ls ≡ length ns
+-- the rows as entries
+abbrev pub entry_of : Row → Entry
+entry_of r = entry r.0 r.1 r.2
 
--- the columns as entries
-unfoldable pub entries : List ℕ → List ℕ → List ℕ → List Entry
-entries (n ∷ ns) (b ∷ bs) (l ∷ ls) = entry n b l ∷ entries ns bs ls
-entries (n ∷ ns) (b ∷ bs) [] = []
-entries (n ∷ ns) [] ls = []
-entries [] bs ls = []
+abbrev pub entries : List Row → List Entry
+entries rows = map entry_of rows
 
--- ---- looking for a line of a table
+-- ---- looking for a row
 
--- a line of the code, or none
-abbrev pub found_line : Line → Found Entry
-found_line (L.At n b l) = At (entry n b l)
-found_line L.None = None
+abbrev pub has_number : ℕ → Row → Bool
+has_number number r = eqb r.0 number
 
--- the line has the number, or the signal, that is wanted
-unfoldable pub has : Entry → Wanted → Bool
-has (entry n b l) (W.Number number) = eqb n number
-has (entry n b l) (W.Signal band letter) = eqb b band && eqb l letter
+abbrev pub has_signal : ℕ → ℕ → Row → Bool
+has_signal band letter r = eqb r.1 band && eqb r.2 letter
 
--- the first line that has what is wanted
-unfoldable pub line_of : List Entry → Wanted → Found Entry
-line_of [] w = None
-line_of (e ∷ t) w = cond (has e w) (At e) (line_of t w)
+-- the signal of a row
+abbrev pub signal_at : Row → Signal
+signal_at r = record { band = r.1; letter = r.2 }
 
--- the signal of a line
-abbrev pub signal_at : Found Entry → Found Signal
-signal_at (At (entry n b l)) = At (sig b l)
-signal_at None = None
+-- the signal of the first row with the number
+abbrev pub signal_in : List Row → ℕ → Option Signal
+signal_in rows number = option_map signal_at (find (has_number number) rows)
 
--- the number of a line
-abbrev pub number_at : Found Entry → Found ℕ
-number_at (At (entry n b l)) = At n
-number_at None = None
+-- the number of the first row with the signal
+abbrev pub number_in : List Row → ℕ → ℕ → Option ℕ
+number_in rows band letter = option_map (λ r. r.0) (find (has_signal band letter) rows)
 
 -- ---- a table's numbers as the bits of one number
 

@@ -1,4 +1,6 @@
 // Raw biases: two kinds that cannot be mixed, each with its length in metres and in whole hundredths of a metre.
+//
+// Two types, and not one with its unit as a const parameter: the alias of such a type makes no value, as `Bias1059(raw)` does.
 ghost use Rattle.std.specs.Prelude.{◌≡◌};
 ghost use Rattle.messages.specs.Metres.{metres1059, metres1230, hundredths1059, hundredths1230};
 

@@ -9,7 +9,8 @@ ghost use Rattle.messages.specs.StepsPen.{drawn};
 use crate::put;
 use bits::field;
 
-// The bit where the next field goes, and the bits before it, of which the last `at % 32` are not stored yet.
+// The bit where the next field goes, and the bits before it, of which the last `at % 32` are not stored yet. The data stand
+// beside the pen: with the data in it (tried), the proof no longer knew what they hold once the pen is gone.
 #[derive(Clone, Copy)]
 pub(crate) struct Pen {
     pub at: usize,

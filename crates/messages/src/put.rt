@@ -19,7 +19,7 @@ pub(crate) fn has_room(length: usize, start: usize, bits: usize) -> bool
     start <= all - bits
 }
 
-// Writes an unsigned number.
+// Writes an unsigned number. The crates above have their own: a public function asks nothing of its caller.
 pub(crate) fn unsigned(bytes: &mut [u8], at: usize, width: usize, value: u64) -> usize
     requires { RoomFor bytes.old at (bits width value ∷ []) × (1 ≤ width) × (width ≤ 64) × (value < 2 ^ width) }
     ensures { IsPut bytes.old at (bits width value ∷ []) bytes.new result }

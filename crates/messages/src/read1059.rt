@@ -5,10 +5,12 @@ ghost use Rattle.bits.specs.Signed.{twos_of};
 ghost use Rattle.messages.specs.StepsRead.{many, counts, Stored, lists1059, put1059, Ready1059};
 ghost use Rattle.messages.specs.StepsRead1059.{bias_at, satellite_at, read_satellites};
 ghost use Rattle.messages.specs.Read1059.{read1059};
-ghost use Rattle.messages.specs.Answers.{told_read};
+ghost use Rattle.messages.specs.Answers.{records_of, told_read};
+ghost use Rattle.bits.specs.Told.{Accepted};
 
-use crate::answer::{BlockRead, unread, unread_signed};
+use crate::answer::Records;
 use bits::field;
+use bits::refusal::Refusal;
 
 // Reads the block from bit `start` on. The first places of the lists take its records, once all of it is read and they have room.
 pub fn read(
@@ -17,23 +19,20 @@ pub fn read(
     satellites: &mut [u8],
     signals: &mut [u8],
     biases: &mut [i16],
-) -> BlockRead
+) -> Result<Records, Refusal>
     ensures { outcome (told_read result) (satellites.new, signals.new, biases.new) ≡ read1059 bytes.now start satellites.old signals.old biases.old }
 {
     if 1023 < bytes.len() {
-        return BlockRead::Size;
+        return Err(Refusal::Size);
     }
     if satellites.len() != signals.len() {
-        return BlockRead::Size;
+        return Err(Refusal::Size);
     }
     if satellites.len() != biases.len() {
-        return BlockRead::Size;
+        return Err(Refusal::Size);
     }
     // DF387: the number of satellites.
-    let read = field::read_unsigned(bytes, start, 6);
-    let Ok((n, at)) = read else {
-        return unread(read);
-    };
+    let (n, at) = field::read_unsigned(bytes, start, 6)?;
     read_satellites(bytes, at, n as usize, satellites, signals, biases)
 }
 
@@ -46,78 +45,63 @@ fn read_satellites(
     satellites: &mut [u8],
     signals: &mut [u8],
     biases: &mut [i16],
-) -> BlockRead
+) -> Result<Records, Refusal>
     requires { (length bytes.now ≤ 1023) × (n ≤ 63) × (length satellites.old ≡ length signals.old) × (length satellites.old ≡ length biases.old) }
     ensures { outcome (told_read result) (satellites.new, signals.new, biases.new) ≡ read_satellites bytes.now n at satellites.old signals.old biases.old }
 {
-    let extent = measure(bytes, at, n);
-    let BlockRead::Records { count, end: _ } = extent else {
-        return extent;
-    };
-    if satellites.len() < count {
-        return BlockRead::Room(count);
+    let all = measure(bytes, at, n)?;
+    if satellites.len() < all.count {
+        return Err(Refusal::Room(all.count));
     }
-    store(bytes, at, n, satellites, signals, biases)
+    Ok(store(bytes, at, n, satellites, signals, biases))
 }
 
 // ---- the first pass: how many records there are, and where they end
 
 // The n satellites from bit `start` on.
-fn measure(bytes: &[u8], start: usize, n: usize) -> BlockRead
+fn measure(bytes: &[u8], start: usize, n: usize) -> Result<Records, Refusal>
     requires { (length bytes.now ≤ 1023) × (n ≤ 63) }
     ensures { told_read result ≡ counts 0 (many (satellite_at bytes.now) n start) }
 {
     let mut at = start;
     let mut i: usize = 0;
-    let mut k: usize = 0;
-    while k < n {
-        let one = measure_satellite(bytes, at, i);
-        let BlockRead::Records { count, end } = one else {
-            return one;
-        };
-        i = count;
-        at = end;
-        k += 1;
+    for _ in 0..n {
+        let one = measure_satellite(bytes, at, i)?;
+        i = one.count;
+        at = one.end;
     }
-    BlockRead::Records { count: i, end: at }
+    Ok(Records { count: i, end: at })
 }
 
 // One satellite, whose first record is record i.
-fn measure_satellite(bytes: &[u8], start: usize, i: usize) -> BlockRead
+fn measure_satellite(bytes: &[u8], start: usize, i: usize) -> Result<Records, Refusal>
     requires { (length bytes.now ≤ 1023) × (i ≤ 1953) }
     ensures { told_read result ≡ counts i (satellite_at bytes.now start) }
 {
     // DF068: the satellite.
-    let read = field::read_unsigned(bytes, start, 6);
-    let Ok((_, at)) = read else {
-        return unread(read);
-    };
+    let (_, at) = field::read_unsigned(bytes, start, 6)?;
     // DF379: the number of its biases.
-    let read = field::read_unsigned(bytes, at, 5);
-    let Ok((n, at)) = read else {
-        return unread(read);
-    };
+    let (n, at) = field::read_unsigned(bytes, at, 5)?;
     measure_biases(bytes, at, n as usize, i)
 }
 
 // The n biases of one satellite. Each has 19 bits, so none has to be read but the one that does not fit.
-fn measure_biases(bytes: &[u8], start: usize, n: usize, i: usize) -> BlockRead
+fn measure_biases(bytes: &[u8], start: usize, n: usize, i: usize) -> Result<Records, Refusal>
     requires { (length bytes.now ≤ 1023) × (start ≤ length bytes.now * 8) × (n ≤ 31) × (i ≤ 1953) }
     ensures { (a : ℕ) → told_read result ≡ counts i (many (bias_at bytes.now a) n start) }
 {
     let all = bytes.len() * 8;
     let whole = (all - start) / 19;
     if n <= whole {
-        return BlockRead::Records {
+        return Ok(Records {
             count: i + n,
             end: start + n * 19,
-        };
+        });
     }
-    let read = field::read_unsigned(bytes, start + whole * 19, 5);
-    let Ok((_, at)) = read else {
-        return unread(read);
-    };
-    unread_signed(field::read_twos(bytes, at, 14))
+    let (_, at) = field::read_unsigned(bytes, start + whole * 19, 5)?;
+    field::read_twos(bytes, at, 14)?;
+    // One of the two does not fit.
+    unreachable!()
 }
 
 // ---- the second pass: the records, into lists that have room for them
@@ -130,23 +114,18 @@ fn store(
     satellites: &mut [u8],
     signals: &mut [u8],
     biases: &mut [i16],
-) -> BlockRead
+) -> Records
     requires { Ready1059 bytes.now 0 (many (satellite_at bytes.now) n start) satellites.old signals.old biases.old }
-    ensures { Stored put1059 0 (many (satellite_at bytes.now) n start) (told_read result) (lists1059 satellites.old signals.old biases.old) (lists1059 satellites.new signals.new biases.new) }
+    ensures { Stored put1059 0 (many (satellite_at bytes.now) n start) (Accepted (records_of result)) (lists1059 satellites.old signals.old biases.old) (lists1059 satellites.new signals.new biases.new) }
 {
     let mut at = start;
     let mut i: usize = 0;
-    let mut k: usize = 0;
-    while k < n {
+    for _ in 0..n {
         let one = store_satellite(bytes, at, i, satellites, signals, biases);
-        let BlockRead::Records { count, end } = one else {
-            return one;
-        };
-        i = count;
-        at = end;
-        k += 1;
+        i = one.count;
+        at = one.end;
     }
-    BlockRead::Records { count: i, end: at }
+    Records { count: i, end: at }
 }
 
 // One satellite, whose first record is record i: its number and that of its biases by one look, since the first pass has
@@ -158,15 +137,12 @@ fn store_satellite(
     satellites: &mut [u8],
     signals: &mut [u8],
     biases: &mut [i16],
-) -> BlockRead
+) -> Records
     requires { Ready1059 bytes.now i (satellite_at bytes.now start) satellites.old signals.old biases.old }
-    ensures { Stored put1059 i (satellite_at bytes.now start) (told_read result) (lists1059 satellites.old signals.old biases.old) (lists1059 satellites.new signals.new biases.new) }
+    ensures { Stored put1059 i (satellite_at bytes.now start) (Accepted (records_of result)) (lists1059 satellites.old signals.old biases.old) (lists1059 satellites.new signals.new biases.new) }
 {
     // DF068 and DF379: the satellite, 6 bits, and the number of its biases, 5 bits.
-    let read = field::read_unsigned(bytes, start, 11);
-    let Ok((both, at)) = read else {
-        return unread(read);
-    };
+    let (both, at) = field::read_unsigned(bytes, start, 11).unwrap();
     store_biases(
         bytes,
         at,
@@ -189,23 +165,18 @@ fn store_biases(
     satellites: &mut [u8],
     signals: &mut [u8],
     biases: &mut [i16],
-) -> BlockRead
+) -> Records
     requires { Ready1059 bytes.now first (many (bias_at bytes.now satellite) n start) satellites.old signals.old biases.old }
-    ensures { Stored put1059 first (many (bias_at bytes.now satellite) n start) (told_read result) (lists1059 satellites.old signals.old biases.old) (lists1059 satellites.new signals.new biases.new) }
+    ensures { Stored put1059 first (many (bias_at bytes.now satellite) n start) (Accepted (records_of result)) (lists1059 satellites.old signals.old biases.old) (lists1059 satellites.new signals.new biases.new) }
 {
     let mut at = start;
     let mut i = first;
-    let mut k: usize = 0;
-    while k < n {
+    for _ in 0..n {
         let one = store_bias(bytes, at, satellite, i, satellites, signals, biases);
-        let BlockRead::Records { count, end } = one else {
-            return one;
-        };
-        i = count;
-        at = end;
-        k += 1;
+        i = one.count;
+        at = one.end;
     }
-    BlockRead::Records { count: i, end: at }
+    Records { count: i, end: at }
 }
 
 // One bias, record i: signal and bias by one look, since the first pass has found that both are there.
@@ -217,19 +188,16 @@ fn store_bias(
     satellites: &mut [u8],
     signals: &mut [u8],
     biases: &mut [i16],
-) -> BlockRead
+) -> Records
     requires { Ready1059 bytes.now i (bias_at bytes.now satellite start) satellites.old signals.old biases.old }
-    ensures { Stored put1059 i (bias_at bytes.now satellite start) (told_read result) (lists1059 satellites.old signals.old biases.old) (lists1059 satellites.new signals.new biases.new) }
+    ensures { Stored put1059 i (bias_at bytes.now satellite start) (Accepted (records_of result)) (lists1059 satellites.old signals.old biases.old) (lists1059 satellites.new signals.new biases.new) }
 {
     // DF380 and DF383: the signal, 5 bits, and the bias, 14 bits.
-    let read = field::read_unsigned(bytes, start, 19);
-    let Ok((both, end)) = read else {
-        return unread(read);
-    };
+    let (both, end) = field::read_unsigned(bytes, start, 19).unwrap();
     satellites[i] = satellite;
     signals[i] = (both >> 14) as u8;
     biases[i] = bias_of(both % 16384);
-    BlockRead::Records { count: i + 1, end }
+    Records { count: i + 1, end }
 }
 
 // The bias that 14 bits in two's complement are.

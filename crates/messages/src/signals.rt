@@ -1,260 +1,179 @@
 // The signals of seven systems: their numbers in the tables of the standard, and their order.
 //
 // Systems are 0 gps, 1 glo, 2 gal, 3 sbas, 4 qzss, 5 bds, 6 navic. Any other system has an empty table.
-ghost use Rattle.std.specs.Prelude.{◌≡◌, ◌&&◌, eqb};
-ghost use Rattle.messages.specs.Signals.{sig, entry, table_of, gps, glo, gal, sbas, qzss, bds, navic, signal_of, number_of};
-ghost use Rattle.messages.specs.SignalOrder.{order, compared, by_band};
+ghost use Rattle.std.specs.Prelude.{◌≡◌, ◌&&◌, eqb, option_map};
+ghost use Rattle.std.specs.List.{find};
+ghost use Rattle.messages.specs.Signals.{sig, table_of, signal_of, number_of};
+ghost use Rattle.messages.specs.SignalOrder.{order};
 ghost use Rattle.messages.specs.Answers.{found_signal, found_number, told_order};
-ghost use Rattle.messages.specs.StepsColumns.{Even, entries, has, line_of, found_line, signal_at};
+ghost use Rattle.messages.specs.StepsColumns.{entries, has_number, has_signal, signal_in, number_in};
 
-// The signal that a number stands for: its band and its letter, an ASCII byte; or none.
+use std::cmp::Ordering;
+
+// A signal: its band, and its letter, an ASCII byte.
+#[derive(Clone, Copy, Debug, PartialEq, Eq)]
+pub struct Signal {
+    pub band: u8,
+    pub letter: u8,
+}
+
+// A line of a table: a number, and the band and the letter of its signal.
 #[derive(Clone, Copy)]
-pub enum SignalFound {
-    At(u8, u8),
-    None,
-}
+pub(crate) struct Row(pub u8, pub u8, pub u8);
 
-// The number of a signal, or none.
-#[derive(Clone, Copy)]
-pub enum NumberFound {
-    At(u8),
-    None,
-}
-
-// How two signals stand to each other.
-#[derive(Clone, Copy)]
-pub enum Order {
-    Less,
-    Equal,
-    Greater,
-}
-
-const GPS_NUMBERS: [u8; 15] = [2, 3, 4, 8, 9, 10, 15, 16, 17, 22, 23, 24, 30, 31, 32];
-
-const GPS_BANDS: [u8; 15] = [1, 1, 1, 2, 2, 2, 2, 2, 2, 5, 5, 5, 1, 1, 1];
-
-const GPS_LETTERS: [u8; 15] = *b"CPWCPWSLXIQXSLX";
-
-fn gps(wanted: Wanted) -> Line
-    ensures { found_line result ≡ line_of gps wanted }
-{
-    line_in(&GPS_NUMBERS, &GPS_BANDS, &GPS_LETTERS, wanted)
-}
-
-const GLO_NUMBERS: [u8; 4] = [2, 3, 8, 9];
-
-const GLO_BANDS: [u8; 4] = [1, 1, 2, 2];
-
-const GLO_LETTERS: [u8; 4] = *b"CPCP";
-
-fn glo(wanted: Wanted) -> Line
-    ensures { found_line result ≡ line_of glo wanted }
-{
-    line_in(&GLO_NUMBERS, &GLO_BANDS, &GLO_LETTERS, wanted)
-}
-
-const GAL_NUMBERS: [u8; 19] = [
-    2, 3, 4, 5, 6, 8, 9, 10, 11, 12, 14, 15, 16, 18, 19, 20, 22, 23, 24,
+const GPS: [Row; 15] = [
+    Row(2, 1, b'C'),
+    Row(3, 1, b'P'),
+    Row(4, 1, b'W'),
+    Row(8, 2, b'C'),
+    Row(9, 2, b'P'),
+    Row(10, 2, b'W'),
+    Row(15, 2, b'S'),
+    Row(16, 2, b'L'),
+    Row(17, 2, b'X'),
+    Row(22, 5, b'I'),
+    Row(23, 5, b'Q'),
+    Row(24, 5, b'X'),
+    Row(30, 1, b'S'),
+    Row(31, 1, b'L'),
+    Row(32, 1, b'X'),
 ];
 
-const GAL_BANDS: [u8; 19] = [1, 1, 1, 1, 1, 6, 6, 6, 6, 6, 7, 7, 7, 8, 8, 8, 5, 5, 5];
+const GLO: [Row; 4] = [
+    Row(2, 1, b'C'),
+    Row(3, 1, b'P'),
+    Row(8, 2, b'C'),
+    Row(9, 2, b'P'),
+];
 
-const GAL_LETTERS: [u8; 19] = *b"CABXZCABXZIQXIQXIQX";
+const GAL: [Row; 19] = [
+    Row(2, 1, b'C'),
+    Row(3, 1, b'A'),
+    Row(4, 1, b'B'),
+    Row(5, 1, b'X'),
+    Row(6, 1, b'Z'),
+    Row(8, 6, b'C'),
+    Row(9, 6, b'A'),
+    Row(10, 6, b'B'),
+    Row(11, 6, b'X'),
+    Row(12, 6, b'Z'),
+    Row(14, 7, b'I'),
+    Row(15, 7, b'Q'),
+    Row(16, 7, b'X'),
+    Row(18, 8, b'I'),
+    Row(19, 8, b'Q'),
+    Row(20, 8, b'X'),
+    Row(22, 5, b'I'),
+    Row(23, 5, b'Q'),
+    Row(24, 5, b'X'),
+];
 
-fn gal(wanted: Wanted) -> Line
-    ensures { found_line result ≡ line_of gal wanted }
-{
-    line_in(&GAL_NUMBERS, &GAL_BANDS, &GAL_LETTERS, wanted)
-}
+const SBAS: [Row; 4] = [
+    Row(2, 1, b'C'),
+    Row(22, 5, b'I'),
+    Row(23, 5, b'Q'),
+    Row(24, 5, b'X'),
+];
 
-const SBAS_NUMBERS: [u8; 4] = [2, 22, 23, 24];
+const QZSS: [Row; 13] = [
+    Row(2, 1, b'C'),
+    Row(9, 6, b'S'),
+    Row(10, 6, b'L'),
+    Row(11, 6, b'X'),
+    Row(15, 2, b'S'),
+    Row(16, 2, b'L'),
+    Row(17, 2, b'X'),
+    Row(22, 5, b'I'),
+    Row(23, 5, b'Q'),
+    Row(24, 5, b'X'),
+    Row(30, 1, b'S'),
+    Row(31, 1, b'L'),
+    Row(32, 1, b'X'),
+];
 
-const SBAS_BANDS: [u8; 4] = [1, 5, 5, 5];
+const BDS: [Row; 16] = [
+    Row(2, 2, b'I'),
+    Row(3, 2, b'Q'),
+    Row(4, 2, b'X'),
+    Row(8, 6, b'I'),
+    Row(9, 6, b'Q'),
+    Row(10, 6, b'X'),
+    Row(14, 7, b'I'),
+    Row(15, 7, b'Q'),
+    Row(16, 7, b'X'),
+    Row(22, 5, b'D'),
+    Row(23, 5, b'P'),
+    Row(24, 5, b'X'),
+    Row(25, 7, b'D'),
+    Row(30, 1, b'D'),
+    Row(31, 1, b'P'),
+    Row(32, 1, b'X'),
+];
 
-const SBAS_LETTERS: [u8; 4] = *b"CIQX";
-
-fn sbas(wanted: Wanted) -> Line
-    ensures { found_line result ≡ line_of sbas wanted }
-{
-    line_in(&SBAS_NUMBERS, &SBAS_BANDS, &SBAS_LETTERS, wanted)
-}
-
-const QZSS_NUMBERS: [u8; 13] = [2, 9, 10, 11, 15, 16, 17, 22, 23, 24, 30, 31, 32];
-
-const QZSS_BANDS: [u8; 13] = [1, 6, 6, 6, 2, 2, 2, 5, 5, 5, 1, 1, 1];
-
-const QZSS_LETTERS: [u8; 13] = *b"CSLXSLXIQXSLX";
-
-fn qzss(wanted: Wanted) -> Line
-    ensures { found_line result ≡ line_of qzss wanted }
-{
-    line_in(&QZSS_NUMBERS, &QZSS_BANDS, &QZSS_LETTERS, wanted)
-}
-
-const BDS_NUMBERS: [u8; 16] = [2, 3, 4, 8, 9, 10, 14, 15, 16, 22, 23, 24, 25, 30, 31, 32];
-
-const BDS_BANDS: [u8; 16] = [2, 2, 2, 6, 6, 6, 7, 7, 7, 5, 5, 5, 7, 1, 1, 1];
-
-const BDS_LETTERS: [u8; 16] = *b"IQXIQXIQXDPXDDPX";
-
-fn bds(wanted: Wanted) -> Line
-    ensures { found_line result ≡ line_of bds wanted }
-{
-    line_in(&BDS_NUMBERS, &BDS_BANDS, &BDS_LETTERS, wanted)
-}
-
-const NAVIC_NUMBERS: [u8; 2] = [8, 22];
-
-const NAVIC_BANDS: [u8; 2] = [9, 5];
-
-const NAVIC_LETTERS: [u8; 2] = *b"AA";
-
-fn navic(wanted: Wanted) -> Line
-    ensures { found_line result ≡ line_of navic wanted }
-{
-    line_in(&NAVIC_NUMBERS, &NAVIC_BANDS, &NAVIC_LETTERS, wanted)
-}
+const NAVIC: [Row; 2] = [Row(8, 9, b'A'), Row(22, 5, b'A')];
 
 // The signal that `number` stands for in the system's table.
-pub fn signal_of(system: u32, number: u32) -> SignalFound
+pub fn signal_of(system: u32, number: u32) -> Option<Signal>
     ensures { found_signal result ≡ signal_of (table_of system) number }
 {
-    signal_at(line_of(system, Wanted::Number(number)))
+    signal_in(table(system), number)
 }
 
 // The number of a signal in the system's table. A band or a letter above 255 is in no table.
-pub fn number_of(system: u32, band: u32, letter: u32) -> NumberFound
+pub fn number_of(system: u32, band: u32, letter: u32) -> Option<u8>
     ensures { found_number result ≡ number_of (table_of system) (sig band letter) }
 {
-    match line_of(system, Wanted::Signal(band, letter)) {
-        Line::At(number, _, _) => NumberFound::At(number),
-        Line::None => NumberFound::None,
-    }
+    number_in(table(system), band, letter)
 }
 
 // How the first signal stands to the second in the system's order: assigned ones by number, then unassigned ones by
 // band, then letter.
-pub fn compare(system: u32, band1: u32, letter1: u32, band2: u32, letter2: u32) -> Order
+pub fn compare(system: u32, band1: u32, letter1: u32, band2: u32, letter2: u32) -> Ordering
     ensures { told_order result ≡ order (table_of system) (sig band1 letter1) (sig band2 letter2) }
 {
     let a = number_of(system, band1, letter1);
     let b = number_of(system, band2, letter2);
-    match a {
-        NumberFound::At(m) => match b {
-            NumberFound::At(n) => compare_numbers(m as u32, n as u32),
-            NumberFound::None => Order::Less,
-        },
-        NumberFound::None => match b {
-            NumberFound::At(_) => Order::Greater,
-            NumberFound::None => compare_bands(band1, letter1, band2, letter2),
-        },
+    match (a, b) {
+        (Some(m), Some(n)) => m.cmp(&n),
+        (Some(_), None) => Ordering::Less,
+        (None, Some(_)) => Ordering::Greater,
+        (None, None) => (band1, letter1).cmp(&(band2, letter2)),
     }
 }
 
-// Two signals by band, then letter.
-fn compare_bands(band1: u32, letter1: u32, band2: u32, letter2: u32) -> Order
-    ensures { told_order result ≡ by_band (sig band1 letter1) (sig band2 letter2) }
-{
-    if band1 == band2 {
-        compare_numbers(letter1, letter2)
-    } else {
-        compare_numbers(band1, band2)
-    }
-}
-
-// Two numbers, the lower one first.
-fn compare_numbers(m: u32, n: u32) -> Order
-    ensures { told_order result ≡ compared m n }
-{
-    if m < n {
-        return Order::Less;
-    }
-    if m == n {
-        return Order::Equal;
-    }
-    Order::Greater
-}
-
-// What is looked for in a table: a number; or a signal, by its band and its letter.
-#[derive(Clone, Copy)]
-pub(crate) enum Wanted {
-    Number(u32),
-    Signal(u32, u32),
-}
-
-// A line of a table: number, band and letter; or none.
-#[derive(Clone, Copy)]
-pub(crate) enum Line {
-    At(u8, u8, u8),
-    None,
-}
-
-// The signal of a line.
-pub(crate) fn signal_at(line: Line) -> SignalFound
-    ensures { found_signal result ≡ signal_at (found_line line) }
-{
-    match line {
-        Line::At(_, band, letter) => SignalFound::At(band, letter),
-        Line::None => SignalFound::None,
-    }
-}
-
-// The first line of the system's table that has what is wanted.
-fn line_of(system: u32, wanted: Wanted) -> Line
-    ensures { found_line result ≡ line_of (table_of system) wanted }
+// The rows of the system's table.
+fn table(system: u32) -> &'static [Row]
+    ensures { entries result.now ≡ table_of system }
 {
     match system {
-        0 => gps(wanted),
-        1 => glo(wanted),
-        2 => gal(wanted),
-        3 => sbas(wanted),
-        4 => qzss(wanted),
-        5 => bds(wanted),
-        6 => navic(wanted),
-        _ => Line::None,
+        0 => &GPS,
+        1 => &GLO,
+        2 => &GAL,
+        3 => &SBAS,
+        4 => &QZSS,
+        5 => &BDS,
+        6 => &NAVIC,
+        _ => &[],
     }
 }
 
-// The first line of the table with these columns that has what is wanted.
-pub(crate) fn line_in(numbers: &[u8], bands: &[u8], letters: &[u8], wanted: Wanted) -> Line
-    requires { Even numbers.now bands.now letters.now }
-    ensures { found_line result ≡ line_of (entries numbers.now bands.now letters.now) wanted }
+// The signal of the first row with the number.
+pub(crate) fn signal_in(rows: &[Row], number: u32) -> Option<Signal>
+    ensures { result ≡ signal_in rows.now number }
 {
-    let mut i: usize = 0;
-    while i < numbers.len() {
-        let number = numbers[i];
-        let band = bands[i];
-        let letter = letters[i];
-        if has(number, band, letter, wanted) {
-            return Line::At(number, band, letter);
-        }
-        i += 1;
-    }
-    Line::None
+    rows.iter()
+        .find(|row| u32::from(row.0) == number)
+        .map(|row| Signal {
+            band: row.1,
+            letter: row.2,
+        })
 }
 
-// Whether a line has what is wanted.
-fn has(number: u8, band: u8, letter: u8, wanted: Wanted) -> bool
-    ensures { result ≡ has (entry number band letter) wanted }
+// The number of the first row with the signal.
+pub(crate) fn number_in(rows: &[Row], band: u32, letter: u32) -> Option<u8>
+    ensures { result ≡ number_in rows.now band letter }
 {
-    match wanted {
-        Wanted::Number(n) => wide(number) == n,
-        Wanted::Signal(b, l) => same_signal(band, letter, b, l),
-    }
-}
-
-// Whether a line has the band and the letter.
-fn same_signal(b: u8, l: u8, band: u32, letter: u32) -> bool
-    ensures { result ≡ (eqb b band && eqb l letter) }
-{
-    if wide(b) == band {
-        return wide(l) == letter;
-    }
-    false
-}
-
-fn wide(x: u8) -> u32
-    ensures { result ≡ x }
-{
-    x as u32
+    rows.iter()
+        .find(|row| u32::from(row.1) == band && u32::from(row.2) == letter)
+        .map(|row| row.0)
 }

@@ -1,114 +1,111 @@
 // The signals of message 1059 (DF380), by edition of their table: 1 or 2. Any other edition is refused with Kind.
 ghost use Rattle.std.specs.Prelude.{◌≡◌, true, cond, ℕ, ◌<◌, eqb};
 ghost use Rattle.messages.specs.Signals.{sig};
-ghost use Rattle.messages.specs.Signals1059.{is_edition, signals1059, named_signal1059, named_number1059};
+ghost use Rattle.messages.specs.Signals1059.{signals1059, named_signal1059, named_number1059};
 ghost use Rattle.messages.specs.Answers.{told_signal, told_number};
-ghost use Rattle.messages.specs.StepsColumns.{found_line, line_of, mask_of, in_mask};
+ghost use Rattle.messages.specs.StepsColumns.{entries, mask_of, in_mask};
+ghost use Rattle.messages.specs.StepsEdition.{edition_of, IsEdition};
 
-use crate::signals::{Line, Wanted, line_in};
+use crate::signals::{Row, Signal, number_in, signal_in};
+use bits::refusal::Refusal;
 
-const NUMBERS_1: [u8; 12] = [0, 1, 2, 5, 6, 7, 8, 9, 10, 11, 14, 15];
-
-const BANDS_1: [u8; 12] = [1, 1, 1, 2, 2, 2, 2, 2, 2, 2, 5, 5];
-
-const LETTERS_1: [u8; 12] = *b"CPWCDSLXPWIQ";
+const EDITION_1: [Row; 12] = [
+    Row(0, 1, b'C'),
+    Row(1, 1, b'P'),
+    Row(2, 1, b'W'),
+    Row(5, 2, b'C'),
+    Row(6, 2, b'D'),
+    Row(7, 2, b'S'),
+    Row(8, 2, b'L'),
+    Row(9, 2, b'X'),
+    Row(10, 2, b'P'),
+    Row(11, 2, b'W'),
+    Row(14, 5, b'I'),
+    Row(15, 5, b'Q'),
+];
 
 // Bit n, counted from the lowest, is set where n is a number of edition 1.
 const MASK_1: u32 = 0b1100_1111_1110_0111;
 
-const NUMBERS_2: [u8; 16] = [0, 1, 2, 3, 4, 5, 6, 7, 8, 9, 10, 11, 12, 13, 14, 15];
-
-const BANDS_2: [u8; 16] = [1, 1, 1, 1, 1, 2, 2, 2, 2, 2, 2, 2, 2, 2, 5, 5];
-
-const LETTERS_2: [u8; 16] = *b"CPWYMCDSLXPWYMIQ";
+const EDITION_2: [Row; 16] = [
+    Row(0, 1, b'C'),
+    Row(1, 1, b'P'),
+    Row(2, 1, b'W'),
+    Row(3, 1, b'Y'),
+    Row(4, 1, b'M'),
+    Row(5, 2, b'C'),
+    Row(6, 2, b'D'),
+    Row(7, 2, b'S'),
+    Row(8, 2, b'L'),
+    Row(9, 2, b'X'),
+    Row(10, 2, b'P'),
+    Row(11, 2, b'W'),
+    Row(12, 2, b'Y'),
+    Row(13, 2, b'M'),
+    Row(14, 5, b'I'),
+    Row(15, 5, b'Q'),
+];
 
 // The same of edition 2.
 const MASK_2: u32 = 0b1111_1111_1111_1111;
 
-// What a number stands for in an edition: the band and the letter of a signal, or none; or there is no such edition.
-#[derive(Clone, Copy)]
-pub enum Signal1059 {
-    At(u8, u8),
-    None,
-    Kind,
+// An edition of the table.
+#[derive(Clone, Copy, Debug, PartialEq, Eq)]
+pub(crate) enum Edition {
+    First,
+    Second,
 }
 
-// Which number stands for a signal in an edition; or there is no such edition.
-#[derive(Clone, Copy)]
-pub enum Number1059 {
-    At(u8),
-    None,
-    Kind,
+impl TryFrom<u32> for Edition {
+    type Error = Refusal;
+
+    ghost try_from_gives = { IsEdition };
+
+    fn try_from(edition: u32) -> Result<Self, Refusal> {
+        match edition {
+            1 => Ok(Edition::First),
+            2 => Ok(Edition::Second),
+            _ => Err(Refusal::Kind),
+        }
+    }
+}
+
+impl Edition {
+    // The rows of its table.
+    fn rows(self) -> &'static [Row]
+        ensures { entries result.now ≡ signals1059 (edition_of self) }
+    {
+        match self {
+            Edition::First => &EDITION_1,
+            Edition::Second => &EDITION_2,
+        }
+    }
+
+    // The numbers of its table as the bits of one number, for a loop that asks of many records.
+    pub(crate) fn mask(self) -> u32
+        ensures { result ≡ mask_of (signals1059 (edition_of self)) }
+    {
+        match self {
+            Edition::First => MASK_1,
+            Edition::Second => MASK_2,
+        }
+    }
 }
 
 // The signal that `number` stands for in the edition's table.
-pub fn signal_of_1059(edition: u32, number: u32) -> Signal1059
+pub fn signal_of_1059(edition: u32, number: u32) -> Result<Option<Signal>, Refusal>
     ensures { told_signal result ≡ named_signal1059 edition number }
 {
-    if !is_edition(edition) {
-        return Signal1059::Kind;
-    }
-    match line_of_1059(edition, Wanted::Number(number)) {
-        Line::At(_, band, letter) => Signal1059::At(band, letter),
-        Line::None => Signal1059::None,
-    }
+    let edition = Edition::try_from(edition)?;
+    Ok(signal_in(edition.rows(), number))
 }
 
 // The number of a signal in the edition's table. A band or a letter above 255 is in no table.
-pub fn number_of_1059(edition: u32, band: u32, letter: u32) -> Number1059
+pub fn number_of_1059(edition: u32, band: u32, letter: u32) -> Result<Option<u8>, Refusal>
     ensures { told_number result ≡ named_number1059 edition (sig band letter) }
 {
-    if !is_edition(edition) {
-        return Number1059::Kind;
-    }
-    match line_of_1059(edition, Wanted::Signal(band, letter)) {
-        Line::At(number, _, _) => Number1059::At(number),
-        Line::None => Number1059::None,
-    }
-}
-
-// Whether there is such an edition.
-pub(crate) fn is_edition(edition: u32) -> bool
-    ensures { result ≡ is_edition edition }
-{
-    if edition == 0 {
-        return false;
-    }
-    edition < 3
-}
-
-// The first line of the edition's table that has what is wanted.
-fn line_of_1059(edition: u32, wanted: Wanted) -> Line
-    ensures { found_line result ≡ line_of (signals1059 edition) wanted }
-{
-    match edition {
-        1 => edition_1(wanted),
-        2 => edition_2(wanted),
-        _ => Line::None,
-    }
-}
-
-fn edition_1(wanted: Wanted) -> Line
-    ensures { found_line result ≡ line_of (signals1059 1) wanted }
-{
-    line_in(&NUMBERS_1, &BANDS_1, &LETTERS_1, wanted)
-}
-
-fn edition_2(wanted: Wanted) -> Line
-    ensures { found_line result ≡ line_of (signals1059 2) wanted }
-{
-    line_in(&NUMBERS_2, &BANDS_2, &LETTERS_2, wanted)
-}
-
-// The numbers of the edition as the bits of one number, for a loop that asks of many records.
-pub(crate) fn mask_1059(edition: u32) -> u32
-    ensures { result ≡ mask_of (signals1059 edition) }
-{
-    match edition {
-        1 => MASK_1,
-        2 => MASK_2,
-        _ => 0,
-    }
+    let edition = Edition::try_from(edition)?;
+    Ok(number_in(edition.rows(), band, letter))
 }
 
 // Whether bit `number` of the mask is set.

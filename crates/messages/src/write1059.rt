@@ -11,12 +11,13 @@ ghost use Rattle.messages.specs.Records.{records1059};
 ghost use Rattle.messages.specs.Writer.{first_repeat};
 ghost use Rattle.messages.specs.Write1059.{same_pair, write1059};
 ghost use Rattle.messages.specs.Layout1059.{of_satellite};
+ghost use Rattle.messages.specs.StepsEdition.{edition_of};
 ghost use Rattle.messages.specs.StepsFault.{told_fault};
 ghost use Rattle.messages.specs.StepsWrite1059.{satellite_fields, satellites_from, fault_by, Faultless, write_faultless, write_known, Linked, crowded_in, present_in};
 
 use crate::pen::Pen;
 use crate::put;
-use crate::signals1059::{in_mask, is_edition, mask_1059, with_number};
+use crate::signals1059::{Edition, in_mask, with_number};
 use bits::refusal::Refusal;
 
 // Writes the block of the records from bit `start` on, the satellites ascending and the records of each in list order.
@@ -31,22 +32,20 @@ pub fn write(
 ) -> Result<usize, Refusal>
     ensures { outcome (told_block result) bytes.new ≡ write1059 edition bytes.old start satellites.now signals.now biases.now }
 {
-    if !is_edition(edition) {
-        return Err(Refusal::Kind);
-    }
+    let edition = Edition::try_from(edition)?;
     write_known(edition, bytes, start, satellites, signals, biases)
 }
 
 // The same of an edition that there is.
 fn write_known(
-    edition: u32,
+    edition: Edition,
     bytes: &mut [u8],
     start: usize,
     satellites: &[u8],
     signals: &[u8],
     biases: &[i16],
 ) -> Result<usize, Refusal>
-    ensures { outcome (told_block result) bytes.new ≡ write_known edition bytes.old start satellites.now signals.now biases.now }
+    ensures { outcome (told_block result) bytes.new ≡ write_known (edition_of edition) bytes.old start satellites.now signals.now biases.now }
 {
     let n = satellites.len();
     if 1023 < bytes.len() {
@@ -61,7 +60,7 @@ fn write_known(
     if 1953 < n {
         return Err(Refusal::Size);
     }
-    first_fault(mask_1059(edition), satellites, signals, biases)?;
+    first_fault(edition.mask(), satellites, signals, biases)?;
     let records = Records1059 {
         satellites,
         signals,
@@ -171,6 +170,7 @@ impl<'a> Records1059<'a> {
             return first;
         }
         let mut pen = first.two(bytes, 6, a as u64, 5, u64::from(count));
+        // Along the links, and not by place: no `for` goes that way.
         let mut i = usize::from(chains.heads[a]);
         while i < self.satellites.len() {
             let bias = put::bits_of::<14>(self.biases[i]);

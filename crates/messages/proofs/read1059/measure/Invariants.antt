@@ -5,9 +5,6 @@ use Rattle.messages.specs.StepsRead.{many, counts}
 use Rattle.messages.specs.StepsRead1059.{satellite_at}
 use Rattle.messages.proofs.read1059.measure.Given as goal
 
-abbrev pub invariant-loop-k : goal.invariant-loop-k
-invariant-loop-k l =
-    (l.k ≤ l.n) × (l.i ≤ l.k * 31) × (counts 0 (many (satellite_at l.bytes) l.n l.start) ≡ counts l.i (many (satellite_at l.bytes) (l.n - l.k) l.at))
-
-abbrev pub decreases-loop-k : goal.decreases-loop-k
-decreases-loop-k l = l.n - l.k
+abbrev pub invariant-loop : goal.invariant-loop
+invariant-loop l =
+    (l.i ≤ l.counter * 31) × (counts 0 (many (satellite_at l.bytes) l.n l.start) ≡ counts l.i (many (satellite_at l.bytes) (l.n - l.counter) l.at))

@@ -1,8 +1,9 @@
 -- `messages::read1059::read` meets its contract. The number of satellites is read, and they lie behind it. Assumes nothing.
-use mathlib.Core.Path.{sym, ap, ◌∙◌}
+use mathlib.Core.Path.{sym, ◌∙◌}
 use native.Mathlib.Omega.{arith}
-use Rattle.bits.specs.Answers.{told_unsigned}
-use Rattle.messages.proofs.ArmLaws.{unsigned_cut, value_within}
+use Rattle.bits.proofs.ReadLaws.{taken}
+use Rattle.bits.proofs.RefusalLaws.{passed_on_with}
+use Rattle.messages.specs.Answers.{records_of}
 use Rattle.messages.proofs.Read1059Laws.{too_long, uneven, uneven_2, count_cut, count_read}
 use Rattle.messages.proofs.read1059.read.Goals as goal
 
@@ -15,18 +16,17 @@ returns-then-satellites-signals c = uneven _ _ _ _ _ (omega arith) c.if-satellit
 pub returns-then-satellites-biases : goal.returns-then-satellites-biases
 returns-then-satellites-biases c = uneven_2 _ _ _ _ _ (omega arith) c.if-satellites-signals.false c.if-satellites-biases.true
 
-pub returns-in_default : goal.returns-in_default
-returns-in_default c =
-    let r = c.read_unsigned-read in
-    let k = unsigned_cut _ _ 6 (omega arith) (omega arith) (omega arith) r.result r.ensures c.in_default.not-Ok c.unread.ensures in
-    count_cut _ _ _ _ _ (omega arith) c.if-satellites-signals.false c.if-satellites-biases.false k.0 k.1
+pub returns-in_err-n : goal.returns-in_err-n
+returns-in_err-n c =
+    passed_on_with records_of _ _ _ c.from_residual.ensures.1
+    ∙ count_cut _ _ _ _ _ (omega arith) c.if-satellites-signals.false c.if-satellites-biases.false (sym c.in_err-n.ensures)
 
 pub read_satellites-requires : goal.read_satellites-requires
 read_satellites-requires c =
-    let t = value_within _ _ 6 (sym c.read_unsigned-read.ensures ∙ ap told_unsigned c.in-Ok.is) in
+    let t = taken _ _ 6 (sym c.in_ok-n.ensures) in
     (omega arith, omega arith, omega arith, omega arith)
 
 pub returns : goal.returns
 returns c =
     c.read_satellites.ensures
-    ∙ count_read _ _ _ _ _ (omega arith) c.if-satellites-signals.false c.if-satellites-biases.false (sym c.read_unsigned-read.ensures ∙ ap told_unsigned c.in-Ok.is)
+    ∙ count_read _ _ _ _ _ (omega arith) c.if-satellites-signals.false c.if-satellites-biases.false (sym c.in_ok-n.ensures)

@@ -1,18 +1,9 @@
--- `messages::signals::number_of` meets its contract: the line that has the signal tells its number. Assumes nothing.
-use mathlib.Core.Path.{◌∙◌, sym, ap}
-use Rattle.messages.specs.StepsColumns.{found_line, number_at}
-use Rattle.messages.specs.declared.signals.Line.{Line}
-use Rattle.messages.proofs.ColumnLaws.{number_by_line}
+-- `messages::signals::number_of` meets its contract: the row that has the signal tells its number. Assumes nothing.
+use mathlib.Core.Path.{◌∙◌, ap}
+use Rattle.messages.specs.Signals.{sig, number_of}
+use Rattle.messages.specs.Answers.{found_number}
+use Rattle.messages.proofs.ColumnLaws.{number_by_row}
 use Rattle.messages.proofs.signals.number_of.Goals as goal
 
-pub returns-in-At : goal.returns-in-At
-returns-in-At c =
-    sym (ap (λ (x : Line). number_at (found_line x)) c.in-At.is)
-    ∙ ap number_at c.line_of.ensures
-    ∙ sym (number_by_line _ _ _)
-
-pub returns-in-None : goal.returns-in-None
-returns-in-None c =
-    sym (ap (λ (x : Line). number_at (found_line x)) c.in-None.is)
-    ∙ ap number_at c.line_of.ensures
-    ∙ sym (number_by_line _ _ _)
+pub returns : goal.returns
+returns c = ap found_number c.number_in.ensures ∙ number_by_row _ c.args.band c.args.letter ∙ ap (λ t. number_of t (sig c.args.band c.args.letter)) c.table.ensures

@@ -1,26 +1,21 @@
--- `messages::signals1059::signal_of_1059` meets its contract: the line of the edition's table that has what is wanted tells the answer. Assumes nothing.
-use mathlib.Core.Path.{◌∙◌, sym, ap}
-use Rattle.bits.specs.Told.{Accepted}
-use Rattle.messages.specs.StepsColumns.{found_line, signal_at}
-use Rattle.messages.specs.declared.signals.Line.{Line}
-use Rattle.messages.proofs.ColumnLaws.{not_named, named}
+-- `messages::signals1059::signal_of_1059` meets its contract: the row of the edition's table that has the number tells the answer. Assumes nothing.
+use mathlib.Core.Path.{◌∙◌, ap}
+use Rattle.bits.specs.Told.{Accepted, and_then}
+use Rattle.bits.proofs.RefusalLaws.{passed_on}
+use Rattle.messages.specs.Signals.{signal_of}
+use Rattle.messages.specs.Answers.{found_signal}
+use Rattle.messages.proofs.ColumnLaws.{signal_by_row, signal_named, signal_by_edition}
 use Rattle.messages.proofs.signals1059.signal_of_1059.Goals as goal
 
-pub returns-then-not-is_edition : goal.returns-then-not-is_edition
-returns-then-not-is_edition c =
-    let a = c.args in
-    not_named a.edition a.number (sym c.is_edition.ensures ∙ c.if-not-is_edition.true)
+pub returns-in_err-edition : goal.returns-in_err-edition
+returns-in_err-edition c =
+    passed_on found_signal _ _ c.from_residual.ensures.1
+    ∙ ap (λ t. and_then t (signal_named c.args.number)) c.in_err-edition.ensures
+    ∙ signal_by_edition _ _
 
-pub returns-in-At : goal.returns-in-At
-returns-in-At c =
-    let a = c.args in
-    sym (ap (λ (x : Line). Accepted (signal_at (found_line x))) c.in-At.is)
-    ∙ ap (λ x. Accepted (signal_at x)) c.line_of_1059.ensures
-    ∙ named a.edition a.number (sym c.is_edition.ensures ∙ c.if-not-is_edition.false)
-
-pub returns-in-None : goal.returns-in-None
-returns-in-None c =
-    let a = c.args in
-    sym (ap (λ (x : Line). Accepted (signal_at (found_line x))) c.in-None.is)
-    ∙ ap (λ x. Accepted (signal_at x)) c.line_of_1059.ensures
-    ∙ named a.edition a.number (sym c.is_edition.ensures ∙ c.if-not-is_edition.false)
+pub returns : goal.returns
+returns c =
+    ap (λ x. Accepted (found_signal x)) c.signal_in.ensures
+    ∙ ap (λ x. Accepted x) (signal_by_row _ c.args.number ∙ ap (λ t. signal_of t c.args.number) c.rows.ensures)
+    ∙ ap (λ t. and_then t (signal_named c.args.number)) c.in_ok-edition.ensures
+    ∙ signal_by_edition _ _
