@@ -3,9 +3,7 @@ ghost use Rattle.std.specs.Prelude.{◌≡◌};
 ghost use Rattle.bits.specs.Told.{Accepted};
 ghost use Rattle.bits.specs.Outcome.{outcome};
 ghost use Rattle.bits.specs.Field.{reading, read_unsigned};
-ghost use Rattle.messages.specs.Answers.{told_read as told_block};
 ghost use Rattle.whole.specs.Headers.{front1059};
-ghost use Rattle.whole.specs.Whole.{headed};
 ghost use Rattle.whole.specs.Messages.{read_message1059};
 ghost use Rattle.whole.specs.Answers.{told_message1059};
 ghost use Rattle.whole.specs.Steps.{told_front1059};
@@ -13,7 +11,6 @@ ghost use Rattle.whole.specs.Steps.{told_front1059};
 use crate::answer::{Header1059, Message1059};
 use bits::field;
 use bits::refusal::Refusal;
-use messages::answer::BlockRead;
 use messages::read1059;
 
 // Reads the message. The first places of the lists take its records, once all of it is read and they have room.
@@ -35,22 +32,12 @@ pub fn read(
         return Err(Refusal::Size);
     }
     let header = begin(bytes)?;
-    with_header(
+    let block = read1059::read(bytes, 61, satellites, signals, biases)?;
+    Ok(Message1059 {
         header,
-        read1059::read(bytes, 61, satellites, signals, biases),
-    )
-}
-
-// What the block answers, with the header of its message.
-fn with_header(header: Header1059, answer: BlockRead) -> Result<Message1059, Refusal>
-    ensures { told_message1059 result ≡ headed header (told_block answer) }
-{
-    match answer {
-        BlockRead::Records { count, end } => Ok(Message1059 { header, count, end }),
-        BlockRead::Size => Err(Refusal::Size),
-        BlockRead::Short(place, missing) => Err(Refusal::Short { place, missing }),
-        BlockRead::Room(count) => Err(Refusal::Room(count)),
-    }
+        count: block.count,
+        end: block.end,
+    })
 }
 
 // The front of the message: what stands before the block.

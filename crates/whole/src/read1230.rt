@@ -3,9 +3,7 @@ ghost use Rattle.std.specs.Prelude.{◌≡◌};
 ghost use Rattle.bits.specs.Told.{Accepted};
 ghost use Rattle.bits.specs.Outcome.{outcome};
 ghost use Rattle.bits.specs.Field.{reading, read_unsigned};
-ghost use Rattle.messages.specs.Answers.{told_read as told_block};
 ghost use Rattle.whole.specs.Headers.{front1230};
-ghost use Rattle.whole.specs.Whole.{headed};
 ghost use Rattle.whole.specs.Messages.{read_message1230};
 ghost use Rattle.whole.specs.Answers.{told_message1230};
 ghost use Rattle.whole.specs.Steps.{told_front1230};
@@ -13,7 +11,6 @@ ghost use Rattle.whole.specs.Steps.{told_front1230};
 use crate::answer::{Header1230, Message1230};
 use bits::field;
 use bits::refusal::Refusal;
-use messages::answer::BlockRead;
 use messages::read1230;
 
 // Reads the message. The first places of the lists take its records, once all of it is read and they have room.
@@ -27,19 +24,12 @@ pub fn read(bytes: &[u8], signals: &mut [u8], biases: &mut [i16]) -> Result<Mess
         return Err(Refusal::Size);
     }
     let header = begin(bytes)?;
-    with_header(header, read1230::read(bytes, 28, signals, biases))
-}
-
-// What the block answers, with the header of its message.
-fn with_header(header: Header1230, answer: BlockRead) -> Result<Message1230, Refusal>
-    ensures { told_message1230 result ≡ headed header (told_block answer) }
-{
-    match answer {
-        BlockRead::Records { count, end } => Ok(Message1230 { header, count, end }),
-        BlockRead::Size => Err(Refusal::Size),
-        BlockRead::Short(place, missing) => Err(Refusal::Short { place, missing }),
-        BlockRead::Room(count) => Err(Refusal::Room(count)),
-    }
+    let block = read1230::read(bytes, 28, signals, biases)?;
+    Ok(Message1230 {
+        header,
+        count: block.count,
+        end: block.end,
+    })
 }
 
 // The front of the message: what stands before the block.

@@ -1,5 +1,5 @@
 -- The front decides, and the block is read behind it. Assumes nothing.
-use mathlib.Core.Path.{◌∙◌}
+use mathlib.Core.Path.{refl, ◌∙◌}
 use Rattle.bits.proofs.RefusalLaws.{passed_on_with}
 use Rattle.whole.specs.Whole.{whole}
 use Rattle.whole.proofs.Read1230Laws.{too_long, uneven, refused, reads}
@@ -16,5 +16,10 @@ returns-in_err-header c =
     passed_on_with (λ m. whole m.header m.count m.end) _ _ _ c.from_residual.ensures.1
     ∙ refused _ _ _ c.if-bytes-gt1023.false c.if-signals-biases.false c.in_err-header.ensures
 
+pub returns-in_err-block : goal.returns-in_err-block
+returns-in_err-block c =
+    passed_on_with (λ m. whole m.header m.count m.end) _ _ _ c.from_residual-in_err-block.ensures.1
+    ∙ reads _ _ _ c.if-bytes-gt1023.false c.if-signals-biases.false c.in_ok-header.ensures c.in_err-block.ensures refl
+
 pub returns : goal.returns
-returns c = reads _ _ _ c.if-bytes-gt1023.false c.if-signals-biases.false c.in_ok-header.ensures c.read.ensures c.with_header.ensures
+returns c = reads _ _ _ c.if-bytes-gt1023.false c.if-signals-biases.false c.in_ok-header.ensures c.in_ok-block.ensures refl
