@@ -135,7 +135,8 @@ fn row_at(bytes: &[u8], start: usize) -> Result<(Observation, usize), Refusal>
 
 // ---- the second pass: the observations, into lists that have room for them
 
-// The n observations of a message that is all there.
+// The n observations of a message that is all there. The C interface lends five areas, and of the loop nothing is plainer than
+// their common place: five iterators side by side would hide it.
 fn store(
     bytes: &[u8],
     n: usize,

@@ -44,16 +44,15 @@ pub fn write(
     if !header_fits(header) {
         return Err(Refusal::Range(0));
     }
-    first_fault(satellites, codes, pseudoranges, phases, locks)?;
-    write_sound(
-        bytes,
-        header,
+    let columns = Columns {
         satellites,
         codes,
         pseudoranges,
         phases,
         locks,
-    )
+    };
+    columns.first_fault()?;
+    columns.write(bytes, header)
 }
 
 // Whether the numbers of a header fit their fields.
@@ -75,45 +74,7 @@ fn header_fits(header: Header) -> bool
     header.interval < 8
 }
 
-// The observation at place i of the lists.
-fn row_of(
-    satellites: &[u8],
-    codes: &[u8],
-    pseudoranges: &[u32],
-    phases: &[i32],
-    locks: &[u8],
-    i: usize,
-) -> Observation
-    requires { Alike (lists satellites.now codes.now pseudoranges.now phases.now locks.now) (length satellites.now) × (i < length satellites.now) }
-    ensures { result ≡ row_at (lists satellites.now codes.now pseudoranges.now phases.now locks.now) i }
-{
-    Observation {
-        satellite: satellites[i],
-        code: codes[i],
-        pseudorange: pseudoranges[i],
-        phase: phases[i],
-        lock: locks[i],
-    }
-}
-
 // ---- refusals
-
-// The fault of the first faulty observation.
-fn first_fault(
-    satellites: &[u8],
-    codes: &[u8],
-    pseudoranges: &[u32],
-    phases: &[i32],
-    locks: &[u8],
-) -> Result<(), Refusal>
-    requires { Alike (lists satellites.now codes.now pseudoranges.now phases.now locks.now) (length satellites.now) }
-    ensures { told_fault result ≡ first_fault fault1001 0 (rows (lists satellites.now codes.now pseudoranges.now phases.now locks.now)) }
-{
-    for i in 0..satellites.len() {
-        fault_of(i, row_of(satellites, codes, pseudoranges, phases, locks, i))?;
-    }
-    Ok(())
-}
 
 // The fault of observation i.
 fn fault_of(i: usize, seen: Observation) -> Result<(), Refusal>
@@ -147,33 +108,75 @@ fn fits_phase(phase: i32) -> bool
     phase < 0x8_0000
 }
 
-// ---- writing
+// ---- the lists
 
-// Writes the message of observations that have no fault.
-fn write_sound(
-    bytes: &mut [u8],
-    header: Header,
-    satellites: &[u8],
-    codes: &[u8],
-    pseudoranges: &[u32],
-    phases: &[i32],
-    locks: &[u8],
-) -> Result<usize, Refusal>
-    requires { Sound bytes.old header (lists satellites.now codes.now pseudoranges.now phases.now locks.now) }
-    ensures { outcome (told_written result) bytes.new ≡ write1001 bytes.old header (lists satellites.now codes.now pseudoranges.now phases.now locks.now) }
-{
-    let n = satellites.len();
-    if 31 < n {
-        return Err(Refusal::TooMany(32));
-    }
-    let bits = 64 + n * 58;
-    if bytes.len() * 8 < bits {
-        return Err(Refusal::Room(bits));
-    }
-    put_front(bytes, header, n as u32);
-    put_rows(bytes, satellites, codes, pseudoranges, phases, locks);
-    Ok(bits)
+// Five lists of one length: observation i is number i of each.
+#[derive(Clone, Copy)]
+struct Columns<'a> {
+    satellites: &'a [u8],
+    codes: &'a [u8],
+    pseudoranges: &'a [u32],
+    phases: &'a [i32],
+    locks: &'a [u8],
+    ghost alike: { Alike (lists satellites.now codes.now pseudoranges.now phases.now locks.now) (length satellites.now) },
 }
+
+impl<'a> Columns<'a> {
+    // Observation i.
+    fn row(&self, i: usize) -> Observation
+        requires { i < length self.now.satellites.now }
+        ensures { result ≡ row_at (lists self.now.satellites.now self.now.codes.now self.now.pseudoranges.now self.now.phases.now self.now.locks.now) i }
+    {
+        Observation {
+            satellite: self.satellites[i],
+            code: self.codes[i],
+            pseudorange: self.pseudoranges[i],
+            phase: self.phases[i],
+            lock: self.locks[i],
+        }
+    }
+
+    // The fault of the first faulty observation.
+    fn first_fault(&self) -> Result<(), Refusal>
+        ensures { told_fault result ≡ first_fault fault1001 0 (rows (lists self.now.satellites.now self.now.codes.now self.now.pseudoranges.now self.now.phases.now self.now.locks.now)) }
+    {
+        for i in 0..self.satellites.len() {
+            fault_of(i, self.row(i))?;
+        }
+        Ok(())
+    }
+
+    // Writes the message of observations that have no fault.
+    fn write(&self, bytes: &mut [u8], header: Header) -> Result<usize, Refusal>
+        requires { Sound bytes.old header (lists self.now.satellites.now self.now.codes.now self.now.pseudoranges.now self.now.phases.now self.now.locks.now) }
+        ensures { outcome (told_written result) bytes.new ≡ write1001 bytes.old header (lists self.now.satellites.now self.now.codes.now self.now.pseudoranges.now self.now.phases.now self.now.locks.now) }
+    {
+        let n = self.satellites.len();
+        if 31 < n {
+            return Err(Refusal::TooMany(32));
+        }
+        let bits = 64 + n * 58;
+        if bytes.len() * 8 < bits {
+            return Err(Refusal::Room(bits));
+        }
+        put_front(bytes, header, n as u32);
+        self.put(bytes);
+        Ok(bits)
+    }
+
+    // Puts the observations, from bit 64 on.
+    fn put(&self, bytes: &mut [u8])
+        requires { RoomFor bytes.old 64 (fields_each observation1001 (rows (lists self.now.satellites.now self.now.codes.now self.now.pseudoranges.now self.now.phases.now self.now.locks.now))) × AllFit (rows (lists self.now.satellites.now self.now.codes.now self.now.pseudoranges.now self.now.phases.now self.now.locks.now)) }
+        ensures { bytes.new ≡ put_all bytes.old 64 (fields_each observation1001 (rows (lists self.now.satellites.now self.now.codes.now self.now.pseudoranges.now self.now.phases.now self.now.locks.now))) }
+    {
+        let mut at: usize = 64;
+        for i in 0..self.satellites.len() {
+            at = put_row(bytes, at, self.row(i));
+        }
+    }
+}
+
+// ---- fields
 
 // The message number, the header and the count.
 fn put_front(bytes: &mut [u8], header: Header, count: u32)
@@ -187,28 +190,6 @@ fn put_front(bytes: &mut [u8], header: Header, count: u32)
     let at = put::unsigned(bytes, at, 5, count);
     let at = put::unsigned(bytes, at, 1, header.smoothing);
     let _end = put::unsigned(bytes, at, 3, header.interval);
-}
-
-// The observations, from bit 64 on.
-fn put_rows(
-    bytes: &mut [u8],
-    satellites: &[u8],
-    codes: &[u8],
-    pseudoranges: &[u32],
-    phases: &[i32],
-    locks: &[u8],
-)
-    requires { RoomFor bytes.old 64 (fields_each observation1001 (rows (lists satellites.now codes.now pseudoranges.now phases.now locks.now))) × Alike (lists satellites.now codes.now pseudoranges.now phases.now locks.now) (length satellites.now) × AllFit (rows (lists satellites.now codes.now pseudoranges.now phases.now locks.now)) }
-    ensures { bytes.new ≡ put_all bytes.old 64 (fields_each observation1001 (rows (lists satellites.now codes.now pseudoranges.now phases.now locks.now))) }
-{
-    let mut at: usize = 64;
-    for i in 0..satellites.len() {
-        at = put_row(
-            bytes,
-            at,
-            row_of(satellites, codes, pseudoranges, phases, locks, i),
-        );
-    }
 }
 
 // One observation.

@@ -14,11 +14,11 @@ returns-then-not-even c = uneven _ _ _ c.if-bytes-gt1023.false (sym c.even.ensur
 pub returns-then-not-header_fits : goal.returns-then-not-header_fits
 returns-then-not-header_fits c = wide_header _ _ _ c.if-bytes-gt1023.false (sym c.even.ensures ∙ c.if-not-even.false) (sym c.header_fits.ensures ∙ c.if-not-header_fits.true)
 
-pub first_fault-requires : goal.first_fault-requires
-first_fault-requires c = alike _ (sym c.even.ensures ∙ c.if-not-even.false)
+pub invariant_of-columns : goal.invariant_of-columns
+invariant_of-columns c = record { alike = alike _ (sym c.even.ensures ∙ c.if-not-even.false) }
 
-pub write_sound-requires : goal.write_sound-requires
-write_sound-requires c =
+pub write-requires : goal.write-requires
+write-requires c =
     record {
       few = c.if-bytes-gt1023.false;
       same = sym c.even.ensures ∙ c.if-not-even.false;
