@@ -6,8 +6,7 @@ use lib.Dec.{ltb, eqb}
 use lib.IntN.{ℤ, pos, negsuc}
 use borrow.Author.Tests.{eqb-true}
 use Rattle.observations.specs.Measured.{length_of, pseudorange_of, is_phase_marker, phase_of, IsNumber}
-use Rattle.std.specs.Prelude.{Some, None}
-use Rattle.observations.specs.declared.measured.Measure.TheVariants.{Metres}
+use Rattle.observations.specs.declared.measured.Measured.TheVariants.{Absent, Metres}
 use lib.Ieee.{Float, Format, nan, inf, fin, binary64, prec, emax, low, of_bits, of_fields, round, units, odd, size, mul, of_int, is_nan}
 
 pub hundredths : of_bits binary64 4581421828931458171 ≡ round binary64 false 2 100
@@ -78,7 +77,7 @@ pseudorange_number z = rw pseudorange_unit (times_number binary64 (of_int binary
 phase_number : (z : ℤ) → is_nan (length_of 5 10000 z) ≡ false
 phase_number z = rw phase_unit (times_number binary64 (of_int binary64 z) false 1152921504606847 (negsuc 60) (int_number binary64 z) refl)
 
-either : (b : Bool) (x : Float) → is_nan x ≡ false → IsNumber (cond b None (Some (Metres x)))
+either : (b : Bool) (x : Float) → is_nan x ≡ false → IsNumber (cond b Absent (Metres x))
 either true x e = tt
 either false x e = rw e tt
 
