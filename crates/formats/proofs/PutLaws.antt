@@ -13,8 +13,8 @@ use Rattle.bits.specs.Outcome.{outcome}
 use Rattle.bits.specs.Field.{write_by}
 use Rattle.bits.specs.Fields.{Field, bits, total, put_all}
 use Rattle.bits.specs.Answers.{told_written}
-use Rattle.std.specs.Prelude.{Result, Ok}
 use Rattle.bits.specs.declared.refusal.Refusal.{Refusal}
+use Rattle.std.specs.Prelude.{Result, Ok, IsOk}
 use Rattle.bits.proofs.FieldsLaws.{total_none, total_one, total_append, put_none, put_one, put_append, length_put_all}
 use Rattle.bits.proofs.WriteLaws.{writes}
 use Rattle.bits.proofs.ToldLaws.{only_wrote}
@@ -96,6 +96,10 @@ module _ (fitting : Bool) (v : ℕ) (s : List ℕ) (p w : ℕ) (f : RoomFor s p 
       let b : Ok q ≡ Ok (p + w) = sym n ∙ ended.0 in
       let d : p + w ≡ q = cc in
       subst (λ (x : ℕ). IsPut s p (bits w v ∷ []) t x) d ended.1
+
+  -- the write is accepted
+  pub is_put_ok : IsOk r
+  is_put_ok = rw ended.0 refl
 
   -- the arm of a `let .. else` that an accepted write never takes
   pub is_put_else : (q : ℕ) → ((n : ℕ) → r ≡ Ok n → ⊥) → IsPut s p (bits w v ∷ []) t q

@@ -1,6 +1,8 @@
 // The whole-stream scan as a call, and the search for a frame that it shares with the scanner.
 //
 // The search looks at bytes that are held and a piece behind them as one stream, which is nowhere copied together.
+// They go as two slices: a struct of both is handed on by its address, which was tried, where a call is not put into its
+// caller. The mode is the number that C gives a scanner, as in the statements of the public calls.
 ghost use Rattle.std.specs.Prelude.{◌≡◌, true, [], ◌++◌, ◌+◌, ◌*◌, ◌^◌, ◌≤◌, ◌<◌, length, get_or, take, drop};
 ghost use Rattle.bits.specs.Field.{field};
 ghost use Rattle.bits.specs.Crc.{crc};

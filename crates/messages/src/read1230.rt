@@ -56,8 +56,8 @@ pub fn read(
     Ok(Records { count, end })
 }
 
-// As `cut` of bits, which is private there: the refusal of a field that ends behind the `all` bits of the data: it lacks what lies behind them, which is all of it
-// where it starts there.
+// The refusal of a field that ends behind the `all` bits of the data: it lacks what lies behind them, which is all of it
+// where it starts there. It is as `cut` of bits, which asks something of its caller, so that it is not public.
 fn short(all: usize, start: usize, width: usize) -> Refusal
     requires { all < start + width }
     ensures { result ≡ Short start (missing all start width) }

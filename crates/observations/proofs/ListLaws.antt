@@ -135,10 +135,6 @@ module _ (s : List ℕ) (few : length s ≤ 1023) where
   pub stored_done : (n k p : ℕ) → n ≤ k → p ≤ length s * 8 → (l : Lists) → stored k (observations_at s (n - k) p) l ≡ l
   stored_done n k p h r l = ap (λ (os : List Observation). stored k os l) (observations_none n k p h r) ∙ stored_none k l
 
--- and its beginning
-pub stored_all : (s : List ℕ) (n p : ℕ) (l : Lists) → stored 0 (observations_at s n p) l ≡ stored 0 (observations_at s (n - 0) p) l
-stored_all s n p l = let d : n ≡ n - 0 = omega arith in ap (λ (j : ℕ). stored 0 (observations_at s j p) l) d
-
 -- lists of one length keep it
 pub alike_set : (l : Lists) (n k : ℕ) (o : Observation) → Alike l n → Alike (with l k o) n
 alike_set l n k o a =

@@ -12,11 +12,11 @@ use mir.Val.{SFits, to_z, of_z}
 use mir.ValLaws.{to_z-of_z}
 use Rattle.bits.specs.Signed.{fits_twos}
 
--- a cast to 64 bits fits, and keeps the number
-pub widen : (z : ℤ) → SFits w32 z → (SFits w64 (to_z w32 (of_z w32 z))) × (to_z w64 (of_z w64 (to_z w32 (of_z w32 z))) ≡ z)
-widen z g =
+-- in 64 bits it is the same number
+pub widen : (z : ℤ) → SFits w32 z → {y : ℤ} → y ≡ to_z w32 (of_z w32 z) → to_z w64 (of_z w64 y) ≡ z
+widen z g e =
     let f : SFits w64 z = record { sfits = omega (arith, g.sfits) } in
-    rw (to_z-of_z w32 z g) (f, to_z-of_z w64 z f)
+    rw (e, to_z-of_z w32 z g) (to_z-of_z w64 z f)
 
 -- the range of 20 bits, below zero and else
 pub fits_below : (z : ℤ) → SFits w32 z → lt_z (to_z w32 (of_z w32 z)) (pos 0) ≡ true → lt_z (negsuc 0x80000) (to_z w32 (of_z w32 z)) ≡ fits_twos 20 z

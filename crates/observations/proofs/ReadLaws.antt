@@ -1,38 +1,34 @@
 -- A call that reads message 1001: which answer is given when. Assumes nothing.
 use mathlib.Core.Path.{◌≡◌, refl, sym, ap, ap₂, ◌∙◌}
 use mathlib.Core.Bool.{true, false}
-use mathlib.Core.List.{List, [], ◌∷◌}
+use mathlib.Core.List.{List}
 use Prim.Native.Nat.{ℕ, ◌+◌, ◌-◌, ◌*◌, ◌≤◌, ◌<◌}
 use native.Mathlib.Omega.{arith}
 use borrow.Author.Tests.{lt-ltb, le-ltb}
 use lib.ListN.{length}
-use types.Run.{OneOf}
-use denote.Enum.Declared.{tag_of}
-use Rattle.bits.specs.Told.{Accepted, Refused, size, room}
+use Rattle.std.specs.Prelude.{Result, Ok, Err, IsOk, IsErrAnd}
+use Rattle.bits.specs.declared.refusal.Refusal.{Refusal}
+use Rattle.bits.specs.Refusals.{number_of, carried_by}
+use Rattle.bits.specs.Told.{Told, Accepted, Refused, size, room}
 use Rattle.bits.specs.Outcome.{outcome}
-use Rattle.bits.specs.Field.{reading}
+use Rattle.bits.specs.Field.{Reading, reading}
 use Rattle.formats.proofs.FixedLaws.{each_whole, each_cut_at}
 use Rattle.observations.specs.declared.answer.Header.{Header}
 use Rattle.observations.specs.declared.answer.Observation.{Observation}
-use Rattle.observations.specs.declared.read.Row.{Row}
-use Rattle.observations.specs.declared.read.Row.TheVariants as R
-use Rattle.observations.specs.declared.read.Front.{Front}
-use Rattle.observations.specs.declared.read.Front.TheVariants as F
 use Rattle.observations.specs.Message1001.{Message, message, message1001, observation1001}
 use Rattle.observations.specs.Lists.{Lists, places, even, filled}
 use Rattle.observations.specs.Read1001.{seen, sizes, read1001}
 use Rattle.observations.specs.Steps.{onward, Whole, told_row, observations_at, stored}
-use Rattle.observations.specs.contracts.read.Row.{the_type as row_type}
 use Rattle.observations.proofs.MessageLaws.{observation_good, observation_fixed, observation_bits}
 use Rattle.observations.proofs.ListLaws.{alike, stored_front, observations_are, observations_many}
 
 -- ---- the first pass
 
--- a front that is refused asks no more
-pub begun_refused : (s : List ℕ) (x : Front) → ((h : Header) (n : ℕ) → x ≡ F.Header h n → ⊥) → Whole s x
-begun_refused s (F.Header h n) o = absurd (o h n refl)
-begun_refused s (F.Short l) o = tt
-begun_refused s F.Kind o = tt
+-- a refusal that is passed on asks no more
+pub front_passed : (s : List ℕ) (x : Result (Header × ℕ) Refusal) (e : Refusal) → IsErrAnd x (λ y. y ≡ e) → {t : Told (Reading Message)} → t ≡ Refused (number_of e) (carried_by e)
+    → (t ≡ onward s x) × Whole s x
+front_passed s (Ok f) e p q = absurd p
+front_passed s (Err y) e p q = (q ∙ ap (λ z. Refused (number_of z) (carried_by z)) (sym p), tt)
 
 module _ (s : List ℕ) (few : length s ≤ 1023) where
   -- an observation that is read lies within the data
@@ -44,22 +40,22 @@ module _ (s : List ℕ) (few : length s ≤ 1023) where
 
   -- the first observation that is cut, behind k that are there
   pub rows_cut : (h : Header) (n k : ℕ) → k < n → 64 + k * 58 ≤ length s * 8 → {m : ℕ} {carried : List ℕ} → observation1001.reads s (64 + k * 58) ≡ Refused m carried
-      → onward s (F.Header h n) ≡ Refused m carried
+      → onward s (Ok (h, n)) ≡ Refused m carried
   rows_cut h n k less l e = rw (each_cut_at observation1001 58 observation_fixed s few k n 64 less l e)
 
   -- all observations are there
-  pub rows_there : (h : Header) (n : ℕ) → 64 + n * 58 ≤ length s * 8 → onward s (F.Header h n) ≡ Accepted (reading (message h (observations_at s n 64)) (64 + n * 58))
+  pub rows_there : (h : Header) (n : ℕ) → 64 + n * 58 ≤ length s * 8 → onward s (Ok (h, n)) ≡ Accepted (reading (message h (observations_at s n 64)) (64 + n * 58))
   rows_there h n l =
       rw (each_whole observation1001 58 observation_fixed s few n 64 l)
       (ap (λ (os : List Observation). Accepted (reading (message h os) (64 + n * 58))) (sym (observations_are s few n 64 l)))
 
   -- an observation of data that has them all is read
-  pub row_there : (k n p : ℕ) → k < n → p + (n - k) * 58 ≤ length s * 8 → (x : Row) → OneOf (1 ∷ []) (tag_of row_type x) → told_row x ≡ observation1001.reads s p → ⊥
-  row_there k n p h l (R.At o q) w e = omega (arith, w)
-  row_there k n p h l (R.Short lack) w e =
+  pub row_there : (k n p : ℕ) → k < n → p + (n - k) * 58 ≤ length s * 8 → (x : Result (Observation × ℕ) Refusal) → told_row x ≡ observation1001.reads s p → IsOk x
+  row_there k n p h l (Ok r) e = refl
+  row_there k n p h l (Err r) e =
       let d = e ∙ observation_fixed.whole s p few (omega (arith, h, l)) in
       let z : ◌≡◌ {A = ℕ} 0 1 = cc in
-      omega arith
+      absurd (omega arith)
 
 -- ---- the call
 
@@ -88,7 +84,7 @@ module _ (s : List ℕ) (l : Lists) where
         reads h = rw (le-ltb _ _ few, e) (rw r (rw (le-ltb _ _ h)))
 
       -- as the two passes find it
-      module _ (h : Header) (n : ℕ) (there : 64 + n * 58 ≤ length s * 8) (r : message1001.reads s 0 ≡ onward s (F.Header h n)) where
+      module _ (h : Header) (n : ℕ) (there : 64 + n * 58 ≤ length s * 8) (r : message1001.reads s 0 ≡ onward s (Ok (h, n))) where
         accepted : message1001.reads s 0 ≡ Accepted (reading (message h (observations_at s n 64)) (64 + n * 58))
         accepted = r ∙ rows_there s few h n there
 

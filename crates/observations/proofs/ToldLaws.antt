@@ -1,21 +1,20 @@
 -- An answer of the code is fixed by what it tells, and so by a statement, and with it the lent memory; a refused call leaves that as it came. Assumes nothing.
-use mathlib.Core.Path.{◌≡◌, refl}
+use mathlib.Core.Path.{◌≡◌, ap}
 use mathlib.Core.Bool.{cond, not}
 use mathlib.Core.List.{List}
+use Rattle.std.specs.Prelude.{Result}
 use Prim.Native.Nat.{ℕ}
-use lib.Dec.{eqb, ltb}
-use lib.ListN.{length, get_or}
-use Rattle.bits.specs.Told.{Told, Accepted, Refused, OneToOne, and_then, range, too_many}
+use lib.Dec.{ltb}
+use lib.ListN.{length}
+use Rattle.bits.specs.Told.{OneToOne, and_then, range, too_many}
 use Rattle.bits.specs.Outcome.{Outcome, outcome}
-use Rattle.bits.proofs.ToldLaws.{found_again}
+use Rattle.bits.specs.declared.refusal.Refusal.{Refusal}
+use Rattle.bits.proofs.RefusalLaws.{told_one_to_one}
 use Rattle.bits.proofs.OutcomeLaws.{Keeps, accepted_keeps, refusing_keeps, only_outcome}
 use Rattle.formats.specs.Written.{fine, first_fault}
 use Rattle.formats.proofs.WrittenLaws.{run_keeps}
 use Rattle.observations.specs.declared.answer.Header.{Header}
-use Rattle.observations.specs.declared.answer.MessageRead.{MessageRead}
-use Rattle.observations.specs.declared.answer.MessageRead.TheVariants as R
-use Rattle.observations.specs.declared.answer.MessageWritten.{MessageWritten}
-use Rattle.observations.specs.declared.answer.MessageWritten.TheVariants as W
+use Rattle.observations.specs.declared.answer.Message.{Message}
 use Rattle.observations.specs.Message1001.{message, message1001, header_fits}
 use Rattle.observations.specs.Lists.{Lists, places, rows, filled}
 use Rattle.observations.specs.Read1001.{Seen, seen, sizes, room_for, read1001}
@@ -24,24 +23,14 @@ use Rattle.observations.specs.Answers.{told_read, told_written}
 
 -- ---- reading
 
-read : Told Seen → MessageRead
-read (Accepted s) = R.Observations s.header s.count s.end
-read (Refused n carried) =
-    cond (eqb n 9) R.Size (cond (eqb n 13) R.Kind (cond (eqb n 1) (R.Short (get_or carried 0 0) (get_or carried 1 0)) (R.Room (get_or carried 0 0))))
-
-read_again : (x : MessageRead) → read (told_read x) ≡ x
-unfolding read
-read_again (R.Observations h n q) = refl
-read_again R.Size = refl
-read_again (R.Short p m) = refl
-read_again R.Kind = refl
-read_again (R.Room n) = refl
+seen_one : (x y : Message) → seen x.header x.count x.end ≡ seen y.header y.count y.end → x ≡ y
+seen_one x y e = ap (λ (s : Seen). record { header = s.header; count = s.count; end = s.end }) e
 
 pub read_one_to_one : OneToOne told_read
-read_one_to_one = found_again told_read read read_again
+read_one_to_one = told_one_to_one (λ m. seen m.header m.count m.end) seen_one
 
 -- two outcomes that the statement of `read` allows are equal, the lent lists too
-pub only_read : (d : Outcome Seen Lists) {x y : MessageRead} {l m : Lists} → outcome (told_read x) l ≡ d → outcome (told_read y) m ≡ d → (x ≡ y) × (l ≡ m)
+pub only_read : (d : Outcome Seen Lists) {x y : Result Message Refusal} {l m : Lists} → outcome (told_read x) l ≡ d → outcome (told_read y) m ≡ d → (x ≡ y) × (l ≡ m)
 only_read d = only_outcome told_read read_one_to_one d
 
 -- a refused reading leaves the lists as they came
@@ -54,29 +43,11 @@ read_keeps s l =
 
 -- ---- writing
 
-written : Told ℕ → MessageWritten
-written (Accepted q) = W.End q
-written (Refused n carried) =
-    cond (eqb n 9) W.Size
-    (cond (eqb n 5) (W.Satellite (get_or carried 0 0))
-    (cond (eqb n 3) (W.Range (get_or carried 0 0))
-    (cond (eqb n 6) (W.TooMany (get_or carried 0 0))
-    (W.Room (get_or carried 0 0)))))
-
-written_again : (x : MessageWritten) → written (told_written x) ≡ x
-unfolding written
-written_again (W.End q) = refl
-written_again W.Size = refl
-written_again (W.Satellite i) = refl
-written_again (W.Range i) = refl
-written_again (W.TooMany n) = refl
-written_again (W.Room n) = refl
-
 pub written_one_to_one : OneToOne told_written
-written_one_to_one = found_again told_written written written_again
+written_one_to_one = told_one_to_one (λ q. q) (λ x y e. e)
 
 -- two outcomes that the statement of `write` allows are equal, the data too
-pub only_write : (d : Outcome ℕ (List ℕ)) {x y : MessageWritten} {s t : List ℕ} → outcome (told_written x) s ≡ d → outcome (told_written y) t ≡ d → (x ≡ y) × (s ≡ t)
+pub only_write : (d : Outcome ℕ (List ℕ)) {x y : Result ℕ Refusal} {s t : List ℕ} → outcome (told_written x) s ≡ d → outcome (told_written y) t ≡ d → (x ≡ y) × (s ≡ t)
 only_write d = only_outcome told_written written_one_to_one d
 
 -- a refused writing leaves the data as they came

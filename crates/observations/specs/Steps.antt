@@ -1,7 +1,9 @@
 -- What private functions of the code compute. No promise to a caller rests on this file. Assumes nothing.
-use Rattle.std.specs.Prelude.{◌≡◌, true, List, [], ◌∷◌, map, ℕ, ◌+◌, ◌*◌, ◌≤◌, length, ℤ}
+use Rattle.std.specs.Prelude.{◌≡◌, true, List, [], ◌∷◌, map, ℕ, ◌+◌, ◌*◌, ◌≤◌, length, Result, Ok, Err}
 use Rattle.std.proofs.lemmas.List.Edits.{sets}
-use Rattle.bits.specs.Told.{Told, Accepted, Refused, and_then, short, range, satellite, kind}
+use Rattle.bits.specs.Told.{Told, Accepted, Refused, and_then}
+use Rattle.bits.specs.Refusals.{told, number_of, carried_by}
+use Rattle.bits.specs.declared.refusal.Refusal.{Refusal}
 use Rattle.bits.specs.Field.{Reading, reading}
 use Rattle.bits.specs.Fields.{Field, bits}
 use Rattle.formats.specs.Format.{times, fit_each}
@@ -11,65 +13,28 @@ use Rattle.observations.specs.Lists.{Lists, lists, places, even, rows}
 use Rattle.observations.specs.Write1001.{fault1001}
 use Rattle.observations.specs.declared.answer.Header.{Header}
 use Rattle.observations.specs.declared.answer.Observation.{Observation}
-use Rattle.observations.specs.declared.read.Front.{Front}
-use Rattle.observations.specs.declared.read.Front.TheVariants as F
-use Rattle.observations.specs.declared.read.Number.{Number}
-use Rattle.observations.specs.declared.read.Number.TheVariants as N
-use Rattle.observations.specs.declared.read.Row.{Row}
-use Rattle.observations.specs.declared.read.Row.TheVariants as R
-use Rattle.observations.specs.declared.read.Lack.{Lack}
-use Rattle.observations.specs.declared.read.Phase.{Phase}
-use Rattle.observations.specs.declared.read.Phase.TheVariants as P
-use Rattle.observations.specs.declared.write.Fault.{Fault}
-use Rattle.observations.specs.declared.write.Fault.TheVariants as T
-use Rattle.observations.specs.declared.write.First.{First}
-use Rattle.observations.specs.declared.write.First.TheVariants as I
 
--- ---- reading one number
+-- ---- reading one observation
 
-abbrev pub told_number : Number → Told (Reading ℕ)
-told_number (N.At v q) = Accepted (reading v q)
-told_number (N.Short l) = short l.place l.missing
-
-abbrev pub number_of : Number → ℕ
-number_of (N.At v q) = v
-number_of (N.Short l) = 0
-
-abbrev pub lack_of : Number → Lack
-lack_of (N.At v q) = record { place = 0; missing = 0 }
-lack_of (N.Short l) = l
-
-abbrev pub told_phase : Phase → Told (Reading ℤ)
-told_phase (P.At z q) = Accepted (reading z q)
-told_phase (P.Short l) = short l.place l.missing
-
-abbrev pub phase_lack_of : Phase → Lack
-phase_lack_of (P.At z q) = record { place = 0; missing = 0 }
-phase_lack_of (P.Short l) = l
-
-abbrev pub told_row : Row → Told (Reading Observation)
-told_row (R.At o q) = Accepted (reading o q)
-told_row (R.Short l) = short l.place l.missing
+abbrev pub told_row : Result (Observation × ℕ) Refusal → Told (Reading Observation)
+told_row = told (λ r. reading r.0 r.1)
 
 -- ---- the first pass
 
--- the message, from what its front tells
-abbrev pub onward : List ℕ → Front → Told (Reading Message)
-onward s (F.Header h n) = and_then ((times n observation1001).reads s 64) (λ os. Accepted (reading (message h os.value) os.next))
-onward s (F.Short l) = short l.place l.missing
-onward s F.Kind = kind
+-- the message, from what its front tells: the header, and how many observations there are
+abbrev pub onward : List ℕ → Result (Header × ℕ) Refusal → Told (Reading Message)
+onward s (Ok f) = and_then ((times f.1 observation1001).reads s 64) (λ os. Accepted (reading (message f.0 os.value) os.next))
+onward s (Err r) = Refused (number_of r) (carried_by r)
 
 -- the header ends at bit 64, and the count has five bits
-abbrev pub Begun : List ℕ → Front → Type 0
-Begun s (F.Header h n) = (n ≤ 31) × (64 ≤ length s * 8)
-Begun s (F.Short l) = Unit
-Begun s F.Kind = Unit
+abbrev pub Begun : List ℕ → Result (Header × ℕ) Refusal → Type 0
+Begun s (Ok f) = (f.1 ≤ 31) × (64 ≤ length s * 8)
+Begun s (Err r) = Unit
 
 -- and all observations are there
-abbrev pub Whole : List ℕ → Front → Type 0
-Whole s (F.Header h n) = (n ≤ 31) × (64 + n * 58 ≤ length s * 8)
-Whole s (F.Short l) = Unit
-Whole s F.Kind = Unit
+abbrev pub Whole : List ℕ → Result (Header × ℕ) Refusal → Type 0
+Whole s (Ok f) = (f.1 ≤ 31) × (64 + f.1 * 58 ≤ length s * 8)
+Whole s (Err r) = Unit
 
 -- ---- the second pass
 
@@ -108,17 +73,9 @@ pub record Ready (s : List ℕ) (n : ℕ) (l : Lists) : Type 0 where
 
 -- ---- writing
 
--- the fault of observation i
-abbrev pub told_fault : ℕ → Fault → Told Unit
-told_fault i T.None = fine
-told_fault i T.Satellite = satellite i
-told_fault i T.Range = range i
-
--- the first fault
-abbrev pub told_first : First → Told Unit
-told_first I.None = fine
-told_first (I.Satellite i) = satellite i
-told_first (I.Range i) = range i
+-- no fault, or the first
+abbrev pub told_fault : Result (Unit {0}) Refusal → Told Unit
+told_fault = told (λ u. u)
 
 -- no observation has a fault
 abbrev pub AllFit : List Observation → Type 0

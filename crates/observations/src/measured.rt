@@ -2,7 +2,7 @@
 ghost use Rattle.std.specs.Prelude.{◌≡◌};
 ghost use Rattle.observations.specs.Measured.{pseudorange_of, phase_of, lock_of};
 
-// Absent, a plain count, or a length in metres.
+// Absent, a plain count, or a length in metres: the three cases that rule OB5 names, so it is no Option of two.
 #[derive(Clone, Copy)]
 pub enum Measured {
     Absent,

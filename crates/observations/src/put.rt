@@ -5,17 +5,13 @@ ghost use Rattle.bits.specs.Fields.{bits};
 ghost use Rattle.formats.specs.Put.{RoomFor, IsPut};
 
 use bits::field;
-use bits::field::Written;
 
-// Writes an unsigned number.
+// Writes an unsigned number. The same stands in whole and messages: a public function may ask nothing of its caller.
 pub(crate) fn unsigned(bytes: &mut [u8], at: usize, width: usize, value: u32) -> usize
     requires { RoomFor bytes.old at (bits width value ∷ []) × (1 ≤ width) × (width ≤ 64) × (value < 2 ^ width) }
     ensures { IsPut bytes.old at (bits width value ∷ []) bytes.new result }
 {
-    let Written::End(next) = field::write_unsigned(bytes, at, width, value as u64) else {
-        return at;
-    };
-    next
+    field::write_unsigned(bytes, at, width, u64::from(value)).unwrap()
 }
 
 // Writes a number in two's complement.
@@ -23,8 +19,5 @@ pub(crate) fn twos(bytes: &mut [u8], at: usize, width: usize, value: i32) -> usi
     requires { RoomFor bytes.old at (bits width (twos_bits width value) ∷ []) × (1 ≤ width) × (width ≤ 64) × (fits_twos width value ≡ true) }
     ensures { IsPut bytes.old at (bits width (twos_bits width value) ∷ []) bytes.new result }
 {
-    let Written::End(next) = field::write_twos(bytes, at, width, value as i64) else {
-        return at;
-    };
-    next
+    field::write_twos(bytes, at, width, i64::from(value)).unwrap()
 }

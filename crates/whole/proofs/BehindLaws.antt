@@ -1,39 +1,42 @@
 -- What the writer of a block told, and what the message with the fields fs of a front of n bits before it tells, for both messages. Assumes nothing.
-use mathlib.Core.Path.{◌≡◌, refl, sym, ap, ◌∙◌}
+use mathlib.Core.Path.{◌≡◌, refl, ap}
 use mathlib.Core.List.{List}
 use Prim.Native.Nat.{ℕ}
-use Rattle.bits.specs.Told.{Accepted, room}
+use Rattle.std.specs.Prelude.{Ok, Err}
+use Rattle.bits.specs.Told.{Accepted}
 use Rattle.bits.specs.Outcome.{outcome}
 use Rattle.bits.specs.Fields.{Field}
+use Rattle.bits.specs.Refusals.{number_of, carried_by}
+use Rattle.bits.specs.declared.refusal.Refusal.{Refusal}
+use Rattle.bits.specs.declared.refusal.Refusal.TheVariants as R
 use Rattle.formats.specs.Put.{IsPut}
 use Rattle.messages.specs.Answers.{told_block}
-use Rattle.messages.specs.declared.answer.BlockWritten.{BlockWritten}
-use Rattle.messages.specs.declared.answer.BlockWritten.TheVariants as W
-use Rattle.whole.specs.Whole.{raised, before}
+use Rattle.whole.specs.Whole.{behind, before}
 
-module _ (n : ℕ) (fs : List Field) (w : BlockWritten) (u : List ℕ) where
-  -- the block lacked room
-  pub tells_room : {k m : ℕ} → w ≡ W.Room k → m ≡ raised n k → outcome (room m) u ≡ before n fs (told_block w) u
-  tells_room r q = ap (λ (m : ℕ). outcome (room m) u) q ∙ ap (λ (x : BlockWritten). before n fs (told_block x) u) (sym r)
+-- a refusal but Room stays as it is
+pub behind_same : (n : ℕ) (r : Refusal) → ((k : ℕ) → r ≡ R.Room k → ⊥) → told_block (Err r) ≡ behind n (number_of r) (carried_by r)
+behind_same n (R.Short p m) o = refl
+behind_same n R.Width o = refl
+behind_same n (R.Range i) o = refl
+behind_same n (R.Signal i) o = refl
+behind_same n (R.Satellite i) o = refl
+behind_same n (R.TooMany a) o = refl
+behind_same n (R.Duplicate i) o = refl
+behind_same n (R.Room k) o = absurd (o k refl)
+behind_same n R.Size o = refl
+behind_same n R.NoPreamble o = refl
+behind_same n R.State o = refl
+behind_same n R.Incomplete o = refl
+behind_same n R.Kind o = refl
+behind_same n (R.BadCheck s c) o = refl
+behind_same n R.Full o = refl
+behind_same n R.Absent o = refl
+
+module _ (n : ℕ) (fs : List Field) (u : List ℕ) where
+  -- the block was refused
+  pub tells_refused : (r x : Refusal) → told_block (Err x) ≡ behind n (number_of r) (carried_by r) → outcome (told_block (Err x)) u ≡ before n fs (told_block (Err r)) u
+  tells_refused r x q = ap (λ t. outcome t u) q
 
   -- it was written, and the front before it
-  pub tells_end : {q : ℕ} → w ≡ W.End q → {v : List ℕ} {p : ℕ} → IsPut u 0 fs v p → outcome (told_block w) v ≡ before n fs (told_block w) u
-  tells_end {q} r {v} d =
-      ap (λ (x : BlockWritten). outcome (told_block x) v) r
-      ∙ ap (λ (x : List ℕ). outcome (Accepted q) x) d.left
-      ∙ ap (λ (x : BlockWritten). before n fs (told_block x) u) (sym r)
-
-  -- it was refused otherwise
-  pub tells_other : ((q : ℕ) → w ≡ W.End q → ⊥) → ((k : ℕ) → w ≡ W.Room k → ⊥) → outcome (told_block w) u ≡ before n fs (told_block w) u
-  tells_other a b = same w a b
-    where
-      same : (x : BlockWritten) → ((q : ℕ) → x ≡ W.End q → ⊥) → ((k : ℕ) → x ≡ W.Room k → ⊥) → outcome (told_block x) u ≡ before n fs (told_block x) u
-      same (W.End q) a b = absurd (a q refl)
-      same W.Size a b = refl
-      same (W.Satellite i) a b = refl
-      same (W.Signal i) a b = refl
-      same (W.Range i) a b = refl
-      same (W.TooMany i) a b = refl
-      same (W.Duplicate i) a b = refl
-      same (W.Room k) a b = absurd (b k refl)
-      same W.Kind a b = refl
+  pub tells_end : (q : ℕ) {v : List ℕ} {p : ℕ} → IsPut u 0 fs v p → outcome (told_block (Ok q)) v ≡ before n fs (told_block (Ok q)) u
+  tells_end q d = ap (λ (x : List ℕ). outcome (Accepted q) x) d.left

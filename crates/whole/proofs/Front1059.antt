@@ -1,48 +1,20 @@
--- The front of message 1059, as the code reads it: field by field, or the first that is cut. Assumes nothing.
-use mathlib.Core.Path.{◌≡◌, sym, ap, ◌∙◌}
+-- The front of message 1059, as the code reads it: field by field. Assumes nothing.
+use mathlib.Core.Path.{◌≡◌, ap}
 use mathlib.Core.List.{List}
 use Prim.Native.Nat.{ℕ}
 use native.Mathlib.Omega.{arith}
-use borrow.Author.Tests.{ne_eqb}
-use Rattle.bits.specs.Told.{Accepted, Refused, kind}
+use Rattle.bits.specs.Told.{Accepted}
 use Rattle.bits.specs.Field.{reading, read_unsigned}
 use Rattle.bits.proofs.ReadLaws.{taken}
 use Rattle.whole.specs.Headers.{front1059}
 
 module _ (s : List ℕ) where
-  pub number_cut : {n : ℕ} {carried : List ℕ} → read_unsigned s 0 12 ≡ Refused n carried → Refused n carried ≡ front1059.reads s 0
-  number_cut e = rw e
-
-  pub number_other : {v q : ℕ} → read_unsigned s 0 12 ≡ Accepted (reading v q) → (v ≡ 1059 → ⊥) → kind ≡ front1059.reads s 0
-  number_other {v} e o = rw e (rw (ne_eqb v 1059 o))
-
-  pub number_is : {v q : ℕ} → read_unsigned s 0 12 ≡ Accepted (reading v q) → v ≡ 1059 → Accepted (reading 1059 q) ≡ read_unsigned s 0 12
-  number_is {v} {q} e d = sym (e ∙ ap (λ (n : ℕ). Accepted (reading n q)) d)
-
   module _ {q : ℕ} (number : read_unsigned s 0 12 ≡ Accepted (reading 1059 q)) where
-    pub epoch_cut : {n : ℕ} {carried : List ℕ} → read_unsigned s q 20 ≡ Refused n carried → Refused n carried ≡ front1059.reads s 0
-    epoch_cut e = rw number (rw e)
-
     module _ {a r : ℕ} (epoch : read_unsigned s q 20 ≡ Accepted (reading a r)) where
-      pub interval_cut : {n : ℕ} {carried : List ℕ} → read_unsigned s r 4 ≡ Refused n carried → Refused n carried ≡ front1059.reads s 0
-      interval_cut e = rw number (rw epoch (rw e))
-
       module _ {b t : ℕ} (interval : read_unsigned s r 4 ≡ Accepted (reading b t)) where
-        pub multiple_cut : {n : ℕ} {carried : List ℕ} → read_unsigned s t 1 ≡ Refused n carried → Refused n carried ≡ front1059.reads s 0
-        multiple_cut e = rw number (rw epoch (rw interval (rw e)))
-
         module _ {c u : ℕ} (multiple : read_unsigned s t 1 ≡ Accepted (reading c u)) where
-          pub iod_cut : {n : ℕ} {carried : List ℕ} → read_unsigned s u 4 ≡ Refused n carried → Refused n carried ≡ front1059.reads s 0
-          iod_cut e = rw number (rw epoch (rw interval (rw multiple (rw e))))
-
           module _ {d v : ℕ} (iod : read_unsigned s u 4 ≡ Accepted (reading d v)) where
-            pub provider_cut : {n : ℕ} {carried : List ℕ} → read_unsigned s v 16 ≡ Refused n carried → Refused n carried ≡ front1059.reads s 0
-            provider_cut e = rw number (rw epoch (rw interval (rw multiple (rw iod (rw e)))))
-
             module _ {e w : ℕ} (provider : read_unsigned s v 16 ≡ Accepted (reading e w)) where
-              pub solution_cut : {n : ℕ} {carried : List ℕ} → read_unsigned s w 4 ≡ Refused n carried → Refused n carried ≡ front1059.reads s 0
-              solution_cut e = rw number (rw epoch (rw interval (rw multiple (rw iod (rw provider (rw e))))))
-
               module _ {f x : ℕ} (solution : read_unsigned s w 4 ≡ Accepted (reading f x)) where
                 pub front_read : Accepted (reading (record { epoch = a; interval = b; multiple = c; iod = d; provider = e; solution = f }) 61) ≡ front1059.reads s 0
                 front_read =

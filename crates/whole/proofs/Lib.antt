@@ -1,4 +1,3 @@
-pub mod TakeLaws
 pub mod Front1059
 pub mod Front1230
 pub mod Header1059

@@ -7,22 +7,23 @@ use native.Mathlib.Omega.{arith}
 use borrow.Author.Tests.{lt-ltb, le-ltb, eq-eqb, ne_eqb}
 use lib.ListN.{length}
 use lib.IntN.{ℤ}
-use Rattle.bits.specs.Told.{Told, size, kind, range, room}
+use Rattle.std.specs.Prelude.{Ok, Err}
+use Rattle.bits.specs.Refusals.{number_of, carried_by}
+use Rattle.bits.specs.declared.refusal.Refusal.{Refusal}
+use Rattle.bits.specs.Told.{Told, size, kind, range}
 use Rattle.bits.specs.Outcome.{Outcome, outcome}
 use Rattle.formats.specs.Put.{RoomFor, IsPut}
 use Rattle.messages.specs.Answers.{told_block}
-use Rattle.messages.specs.declared.answer.BlockWritten.{BlockWritten}
-use Rattle.messages.specs.declared.answer.BlockWritten.TheVariants as W
 use Rattle.messages.specs.Signals1059.{is_edition}
 use Rattle.messages.specs.Write1059.{write1059}
 use Rattle.messages.proofs.Accepts1059.{call_accepted}
 use Rattle.messages.proofs.KeepLaws.{leaves_1059}
 use Rattle.whole.specs.declared.answer.Header1059.{Header1059}
 use Rattle.whole.specs.Headers.{header_fits1059, fields1059}
-use Rattle.whole.specs.Whole.{raised, before, fronted}
+use Rattle.whole.specs.Whole.{behind, before, fronted}
 use Rattle.whole.specs.Messages.{refused1059, write_message1059}
 use Rattle.whole.proofs.Header1059.{front_bits}
-use Rattle.whole.proofs.BehindLaws.{tells_room, tells_end, tells_other}
+use Rattle.whole.proofs.BehindLaws.{tells_refused, tells_end}
 
 module _ (e : ℕ) (s : List ℕ) (h : Header1059) (sats gs : List ℕ) (zs : List ℤ) where
   abbrev call : Outcome ℕ (List ℕ)
@@ -63,19 +64,16 @@ module _ (e : ℕ) (s : List ℕ) (h : Header1059) (sats gs : List ℕ) (zs : Li
               unfolding write_message1059 refused1059
               goes_on o = rw (k0, le-ltb 1023 (length s) k1, eq-eqb (length sats) (length gs) k2, eq-eqb (length sats) (length zs) k3, le-ltb 1953 (length sats) k4, k5) (ap (fronted 61 (fields1059 h)) o)
 
-              module _ (w : BlockWritten) {u : List ℕ} (o : outcome (told_block w) u ≡ write1059 e s 61 sats gs zs) where
-                pub room_carries : {n m : ℕ} → w ≡ W.Room n → m ≡ raised 61 n → outcome (room m) u ≡ call
-                room_carries r q = tells_room 61 (fields1059 h) w u r q ∙ goes_on o
+              module _ {u : List ℕ} where
+                pub refused_block : (r x : Refusal) → outcome (told_block (Err r)) u ≡ write1059 e s 61 sats gs zs → told_block (Err x) ≡ behind 61 (number_of r) (carried_by r) → outcome (told_block (Err x)) u ≡ call
+                refused_block r x o q = tells_refused 61 (fields1059 h) u r x q ∙ goes_on o
 
-                pub front_fits : {q : ℕ} → w ≡ W.End q → RoomFor u 0 (fields1059 h)
-                front_fits r =
+                pub front_fits : {q : ℕ} → outcome (told_block (Ok q)) u ≡ write1059 e s 61 sats gs zs → RoomFor u 0 (fields1059 h)
+                front_fits {q} o =
                     let same : length u ≡ length s = ap (λ (x : Outcome ℕ (List ℕ)). length x.areas) o ∙ (leaves_1059 s 61 e sats gs zs).long in
-                    let a = call_accepted e s 61 sats gs zs (sym (ap (λ (x : Outcome ℕ (List ℕ)). x.answer) o) ∙ ap told_block r) in
+                    let a = call_accepted e s 61 sats gs zs (sym (ap (λ (x : Outcome ℕ (List ℕ)). x.answer) o)) in
                     let b = front_bits h in
                     record { few = omega (arith, same, k1); within = omega (arith, same, b, a.within) }
 
-                pub written : {q : ℕ} → w ≡ W.End q → {v : List ℕ} {p : ℕ} → IsPut u 0 (fields1059 h) v p → outcome (told_block w) v ≡ call
-                written r d = tells_end 61 (fields1059 h) w u r d ∙ goes_on o
-
-                pub other : ((q : ℕ) → w ≡ W.End q → ⊥) → ((n : ℕ) → w ≡ W.Room n → ⊥) → outcome (told_block w) u ≡ call
-                other a b = tells_other 61 (fields1059 h) w u a b ∙ goes_on o
+                pub written : {q : ℕ} → outcome (told_block (Ok q)) u ≡ write1059 e s 61 sats gs zs → {v : List ℕ} {p : ℕ} → IsPut u 0 (fields1059 h) v p → outcome (told_block (Ok q)) v ≡ call
+                written {q} o d = tells_end 61 (fields1059 h) u q d ∙ goes_on o

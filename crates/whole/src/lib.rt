@@ -4,9 +4,9 @@
 #![tactic(auto)]
 
 pub mod answer;
+mod behind;
 mod put;
 pub mod read1059;
 pub mod read1230;
-mod take;
 pub mod write1059;
 pub mod write1230;

@@ -4,15 +4,11 @@ ghost use Rattle.bits.specs.Fields.{bits};
 ghost use Rattle.formats.specs.Put.{RoomFor, IsPut};
 
 use bits::field;
-use bits::field::Written;
 
 // Writes an unsigned number.
 pub(crate) fn unsigned(bytes: &mut [u8], at: usize, width: usize, value: u32) -> usize
     requires { RoomFor bytes.old at (bits width value ∷ []) × (1 ≤ width) × (width ≤ 64) × (value < 2 ^ width) }
     ensures { IsPut bytes.old at (bits width value ∷ []) bytes.new result }
 {
-    let Written::End(next) = field::write_unsigned(bytes, at, width, value as u64) else {
-        return at;
-    };
-    next
+    field::write_unsigned(bytes, at, width, u64::from(value)).unwrap()
 }

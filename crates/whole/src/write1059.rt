@@ -5,12 +5,12 @@ ghost use Rattle.formats.specs.Put.{RoomFor, IsPut};
 ghost use Rattle.messages.specs.Signals1059.{is_edition};
 ghost use Rattle.messages.specs.Answers.{told_block};
 ghost use Rattle.whole.specs.Headers.{header_fits1059, fields1059};
-ghost use Rattle.whole.specs.Whole.{raised};
 ghost use Rattle.whole.specs.Messages.{write_message1059};
 
 use crate::answer::Header1059;
+use crate::behind::behind;
 use crate::put;
-use messages::answer::BlockWritten;
+use bits::refusal::Refusal;
 use messages::write1059;
 
 // Writes the message of the header and the records from bit 0 on.
@@ -21,46 +21,34 @@ pub fn write(
     satellites: &[u8],
     signals: &[u8],
     biases: &[i16],
-) -> BlockWritten
+) -> Result<usize, Refusal>
     ensures { outcome (told_block result) bytes.new ≡ write_message1059 edition bytes.old header satellites.now signals.now biases.now }
 {
     if !is_edition(edition) {
-        return BlockWritten::Kind;
+        return Err(Refusal::Kind);
     }
     if 1023 < bytes.len() {
-        return BlockWritten::Size;
+        return Err(Refusal::Size);
     }
     if satellites.len() != signals.len() {
-        return BlockWritten::Size;
+        return Err(Refusal::Size);
     }
     if satellites.len() != biases.len() {
-        return BlockWritten::Size;
+        return Err(Refusal::Size);
     }
     if 1953 < satellites.len() {
-        return BlockWritten::Size;
+        return Err(Refusal::Size);
     }
     if !header_fits(header) {
-        return BlockWritten::Range(0);
+        return Err(Refusal::Range(0));
     }
-    let written = write1059::write(edition, bytes, 61, satellites, signals, biases);
-    match written {
-        BlockWritten::End(_) => {
+    match write1059::write(edition, bytes, 61, satellites, signals, biases) {
+        Ok(end) => {
             put_front(bytes, header);
-            written
+            Ok(end)
         }
-        BlockWritten::Room(bits) => BlockWritten::Room(with_front(bits)),
-        _ => written,
+        Err(refusal) => Err(behind(61, refusal)),
     }
-}
-
-// The bits of the message whose block has `bits`. No block has 2^32 of them, so the sum is one of the machine.
-fn with_front(bits: usize) -> usize
-    ensures { result ≡ raised 61 bits }
-{
-    if 0xFFFF_FFFF < bits {
-        return bits;
-    }
-    61 + bits
 }
 
 // Whether there is such an edition of the signals.

@@ -4,49 +4,42 @@ ghost use Rattle.bits.specs.Outcome.{outcome};
 ghost use Rattle.formats.specs.Put.{RoomFor, IsPut};
 ghost use Rattle.messages.specs.Answers.{told_block};
 ghost use Rattle.whole.specs.Headers.{header_fits1230, fields1230};
-ghost use Rattle.whole.specs.Whole.{raised};
 ghost use Rattle.whole.specs.Messages.{write_message1230};
 
 use crate::answer::Header1230;
+use crate::behind::behind;
 use crate::put;
-use messages::answer::BlockWritten;
+use bits::refusal::Refusal;
 use messages::write1230;
 
 // Writes the message of the header and the records from bit 0 on.
-pub fn write(bytes: &mut [u8], header: Header1230, signals: &[u8], biases: &[i16]) -> BlockWritten
+pub fn write(
+    bytes: &mut [u8],
+    header: Header1230,
+    signals: &[u8],
+    biases: &[i16],
+) -> Result<usize, Refusal>
     ensures { outcome (told_block result) bytes.new ≡ write_message1230 bytes.old header signals.now biases.now }
 {
     if 1023 < bytes.len() {
-        return BlockWritten::Size;
+        return Err(Refusal::Size);
     }
     if signals.len() != biases.len() {
-        return BlockWritten::Size;
+        return Err(Refusal::Size);
     }
     if 4 < signals.len() {
-        return BlockWritten::Size;
+        return Err(Refusal::Size);
     }
     if !header_fits(header) {
-        return BlockWritten::Range(0);
+        return Err(Refusal::Range(0));
     }
-    let written = write1230::write(bytes, 28, signals, biases);
-    match written {
-        BlockWritten::End(_) => {
+    match write1230::write(bytes, 28, signals, biases) {
+        Ok(end) => {
             put_front(bytes, header);
-            written
+            Ok(end)
         }
-        BlockWritten::Room(bits) => BlockWritten::Room(with_front(bits)),
-        _ => written,
+        Err(refusal) => Err(behind(28, refusal)),
     }
-}
-
-// The bits of the message whose block has `bits`. No block has 2^32 of them, so the sum is one of the machine.
-fn with_front(bits: usize) -> usize
-    ensures { result ≡ raised 28 bits }
-{
-    if 0xFFFF_FFFF < bits {
-        return bits;
-    }
-    28 + bits
 }
 
 // Whether the numbers of a header fit their fields.

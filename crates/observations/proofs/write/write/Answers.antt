@@ -1,6 +1,6 @@
--- `observations::write::write` meets its contract. Each answer is the one that the sizes, the header and the observations ask for. Assumes nothing.
-use mathlib.Core.Path.{sym, ap, ◌∙◌}
-use Rattle.observations.specs.Steps.{told_first}
+-- Each answer is the one that the sizes, the header and the observations ask for. Assumes nothing.
+use mathlib.Core.Path.{sym, ◌∙◌}
+use Rattle.bits.proofs.RefusalLaws.{passed_on_with}
 use Rattle.observations.proofs.ListLaws.{alike}
 use Rattle.observations.proofs.WriteLaws.{too_long, uneven, wide_header, faulty}
 use Rattle.observations.proofs.write.write.Goals as goal
@@ -14,27 +14,19 @@ returns-then-not-even c = uneven _ _ _ c.if-bytes-gt1023.false (sym c.even.ensur
 pub returns-then-not-header_fits : goal.returns-then-not-header_fits
 returns-then-not-header_fits c = wide_header _ _ _ c.if-bytes-gt1023.false (sym c.even.ensures ∙ c.if-not-even.false) (sym c.header_fits.ensures ∙ c.if-not-header_fits.true)
 
-pub first_fault-requires : goal.first_fault-requires
-first_fault-requires c = alike _ (sym c.even.ensures ∙ c.if-not-even.false)
+pub invariant_of-columns : goal.invariant_of-columns
+invariant_of-columns c = record { alike = alike _ (sym c.even.ensures ∙ c.if-not-even.false) }
 
-pub write_sound-requires : goal.write_sound-requires
-write_sound-requires c =
+pub write-requires : goal.write-requires
+write-requires c =
     record {
       few = c.if-bytes-gt1023.false;
       same = sym c.even.ensures ∙ c.if-not-even.false;
       header = sym c.header_fits.ensures ∙ c.if-not-header_fits.false;
-      faultless = sym c.first_fault.ensures ∙ ap told_first c.in-None.is;
+      faultless = sym c.in_ok-first_fault.ensures;
     }
 
-pub returns-in-Satellite : goal.returns-in-Satellite
-returns-in-Satellite c =
-    faulty _ _ _ c.if-bytes-gt1023.false (sym c.even.ensures ∙ c.if-not-even.false) (sym c.header_fits.ensures ∙ c.if-not-header_fits.false)
-    (ap told_first (sym c.in-Satellite.is) ∙ c.first_fault.ensures)
-
-pub returns-in-Range : goal.returns-in-Range
-returns-in-Range c =
-    faulty _ _ _ c.if-bytes-gt1023.false (sym c.even.ensures ∙ c.if-not-even.false) (sym c.header_fits.ensures ∙ c.if-not-header_fits.false)
-    (ap told_first (sym c.in-Range.is) ∙ c.first_fault.ensures)
-
-pub returns-in-None : goal.returns-in-None
-returns-in-None c = c.write_sound.ensures
+pub returns-in_err-first_fault : goal.returns-in_err-first_fault
+returns-in_err-first_fault c =
+    passed_on_with (λ q. q) _ _ _ c.from_residual.ensures.1
+    ∙ faulty _ _ _ c.if-bytes-gt1023.false (sym c.even.ensures ∙ c.if-not-even.false) (sym c.header_fits.ensures ∙ c.if-not-header_fits.false) c.in_err-first_fault.ensures

@@ -1,6 +1,6 @@
--- `whole::write1230::write` meets its contract. The header is tested, the block is written behind it, and then the front before it. Assumes nothing.
+-- The header is tested, the block is written behind it, and then the front before it. Assumes nothing.
 use mathlib.Core.Path.{sym, ◌∙◌}
-use Rattle.whole.proofs.Write1230Laws.{too_long, uneven, too_many_lem, wide_header, room_carries, front_fits, written, other}
+use Rattle.whole.proofs.Write1230Laws.{too_long, uneven, too_many_lem, wide_header, refused_block, front_fits, written}
 use Rattle.whole.proofs.write1230.write.Goals as goal
 
 pub returns-then-bytes-gt1023 : goal.returns-then-bytes-gt1023
@@ -16,13 +16,10 @@ pub returns-then-not-header_fits : goal.returns-then-not-header_fits
 returns-then-not-header_fits c = wide_header _ _ _ _ c.if-bytes-gt1023.false c.if-signals-biases.false c.if-signals-gt4.false (sym c.header_fits.ensures ∙ c.if-not-header_fits.true)
 
 pub put_front-requires : goal.put_front-requires
-put_front-requires c = (front_fits _ _ _ _ c.if-bytes-gt1023.false c.if-signals-biases.false c.if-signals-gt4.false (sym c.header_fits.ensures ∙ c.if-not-header_fits.false) _ c.write-written.ensures c.in-End.is, (sym c.header_fits.ensures ∙ c.if-not-header_fits.false))
+put_front-requires c = (front_fits _ _ _ _ c.if-bytes-gt1023.false c.if-signals-biases.false c.if-signals-gt4.false (sym c.header_fits.ensures ∙ c.if-not-header_fits.false) c.in-Ok.ensures, (sym c.header_fits.ensures ∙ c.if-not-header_fits.false))
 
-pub returns-in-End : goal.returns-in-End
-returns-in-End c = written _ _ _ _ c.if-bytes-gt1023.false c.if-signals-biases.false c.if-signals-gt4.false (sym c.header_fits.ensures ∙ c.if-not-header_fits.false) _ c.write-written.ensures c.in-End.is c.put_front.ensures
+pub returns-in-Ok : goal.returns-in-Ok
+returns-in-Ok c = written _ _ _ _ c.if-bytes-gt1023.false c.if-signals-biases.false c.if-signals-gt4.false (sym c.header_fits.ensures ∙ c.if-not-header_fits.false) c.in-Ok.ensures c.put_front.ensures
 
-pub returns-in-Room : goal.returns-in-Room
-returns-in-Room c = room_carries _ _ _ _ c.if-bytes-gt1023.false c.if-signals-biases.false c.if-signals-gt4.false (sym c.header_fits.ensures ∙ c.if-not-header_fits.false) _ c.write-written.ensures c.in-Room.is c.with_front.ensures
-
-pub returns-in_default : goal.returns-in_default
-returns-in_default c = other _ _ _ _ c.if-bytes-gt1023.false c.if-signals-biases.false c.if-signals-gt4.false (sym c.header_fits.ensures ∙ c.if-not-header_fits.false) c.write-written.result c.write-written.ensures c.in_default.not-End c.in_default.not-Room
+pub returns-in-Err : goal.returns-in-Err
+returns-in-Err c = refused_block _ _ _ _ c.if-bytes-gt1023.false c.if-signals-biases.false c.if-signals-gt4.false (sym c.header_fits.ensures ∙ c.if-not-header_fits.false) _ _ c.in-Err.ensures c.behind.ensures

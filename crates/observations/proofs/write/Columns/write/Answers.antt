@@ -1,8 +1,7 @@
 -- `observations::write::write_sound` meets its contract. What is put is the message, part by part. Assumes nothing.
-use Rattle.observations.proofs.ListLaws.{alike}
 use Rattle.observations.specs.Lists.{lists}
 use Rattle.observations.proofs.WriteLaws.{all_fit, too_many_lem, lacks_room, puts, front_fits, rows_fit, all_put}
-use Rattle.observations.proofs.write.write_sound.Goals as goal
+use Rattle.observations.proofs.write.Columns.write.Goals as goal
 
 pub returns-then-n-gt31 : goal.returns-then-n-gt31
 returns-then-n-gt31 c = let p = c.requires in too_many_lem _ _ _ p.few p.same p.header p.faultless c.if-n-gt31.true
@@ -15,15 +14,15 @@ put_front-requires c =
     let p = c.requires in
     let a = c.args in
     -- the lists that are lent
-    let l = lists a.satellites.now a.codes.now a.pseudoranges.now a.phases.now a.locks.now in
+    let l = let m = a.self.now in lists m.satellites.now m.codes.now m.pseudoranges.now m.phases.now m.locks.now in
     (front_fits _ a.header l p.few c.if-bytes-bits.false, p.header, c.if-n-gt31.false)
 
-pub put_rows-requires : goal.put_rows-requires
-put_rows-requires c =
+pub put-requires : goal.put-requires
+put-requires c =
     let p = c.requires in
-    (rows_fit _ c.args.header _ p.few c.if-bytes-bits.false c.put_front.ensures, alike _ p.same, all_fit 0 _ p.faultless)
+    (rows_fit _ c.args.header _ p.few c.if-bytes-bits.false c.put_front.ensures, all_fit 0 _ p.faultless)
 
 pub returns : goal.returns
 returns c =
     let p = c.requires in
-    all_put _ c.args.header _ c.put_front.ensures c.put_rows.ensures (puts _ _ _ p.few p.same p.header p.faultless c.if-n-gt31.false c.if-bytes-bits.false)
+    all_put _ c.args.header _ c.put_front.ensures c.put.ensures (puts _ _ _ p.few p.same p.header p.faultless c.if-n-gt31.false c.if-bytes-bits.false)
