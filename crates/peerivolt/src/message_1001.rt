@@ -12,7 +12,7 @@ ghost use Rattle.peerivolt.specs.Message1001.{seen_values, measured_values, head
 use crate::extra;
 use crate::extra::Values;
 use observations::answer::{Header, Message};
-use observations::measured::Measure;
+use observations::measured::Measured;
 use observations::measured::Measured;
 use observations::{measured, read, write};
 
@@ -124,13 +124,13 @@ impl Values for Message {
 
 // What a raw number measures: 0 absent, 1 a count or 2 metres, and the count or the 64 bits of the double. It is no `Values`,
 // since it asks that a length is a number.
-fn numbers_of(measure: Option<Measure>) -> [u64; 8]
-    requires { IsNumber measure }
-    ensures { result ≡ spread (measured_values measure) }
+fn numbers_of(measured: Measured) -> [u64; 8]
+    requires { IsNumber measured }
+    ensures { result ≡ spread (measured_values measured) }
 {
-    match measure {
-        None => [0; 8],
-        Some(Measure::Count(count)) => [1, count as u64, 0, 0, 0, 0, 0, 0],
-        Some(Measure::Metres(metres)) => [2, f64::to_bits(metres), 0, 0, 0, 0, 0, 0],
+    match measured {
+        Measured::Absent => [0; 8],
+        Measured::Count(count) => [1, count as u64, 0, 0, 0, 0, 0, 0],
+        Measured::Metres(metres) => [2, f64::to_bits(metres), 0, 0, 0, 0, 0, 0],
     }
 }
