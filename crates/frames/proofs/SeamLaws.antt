@@ -1,13 +1,13 @@
 -- Two lists, one behind the other: bytes and parts of them as the code finds and copies them. Assumes nothing.
 use mathlib.Core.Path.{◌≡◌, refl, sym, ap, ap₂, ◌∙◌}
-use mathlib.Core.List.{List, [], ◌∷◌, ◌++◌, append-nil}
+use mathlib.Core.List.{List, [], ◌∷◌, ◌++◌, append-nil, append_assoc}
 use Prim.Native.Nat.{ℕ, zero, suc, ◌+◌, ◌-◌, ◌≤◌, ◌<◌, min}
 use native.Mathlib.Nat.{add-sub_of_le, sub-zero, zero-sub, suc-sub-suc, add_comm, not-suc-le-zero, le_of_suc-le-suc}
 use native.Mathlib.Numerals.{add-one}
 use native.Mathlib.Omega.{arith}
 use native.Mathlib.Decide.{dec_lt}
-use lib.ListN.{length, get_or, take, drop, set, length-append, length-drop, get_or-append}
-use lib.Seq.{get_or-append-add, get_or-drop, drop-append-le, drop-append-add, take-append-le, take-append-add, take_all, take-nil, take-take, length-take-le}
+use lib.ListN.{length, get_or, take, drop, set, length-append, length-drop, get_or-append, take-append-drop}
+use lib.Seq.{get_or-append-add, get_or-drop, drop-append-le, drop-append-add, take-append-le, take-append-add, take_all, take-nil, take-take, length-take-le, drop-drop, paste, take-paste, drop-paste}
 use Rattle.bits.specs.Onto.{onto, over}
 use Rattle.bits.specs.Crc.{crc, crc_from}
 use Rattle.bits.proofs.CrcLaws.{crc_append}
@@ -75,6 +75,42 @@ module _ (h p : List ℕ) (i n : ℕ) where
         ∙ ap crc part_across
 
 -- ---- copies
+
+-- the first w bytes of p over those from place i on, and then all from its byte m on: all of p stands there
+module _ (p d : List ℕ) (i w m : ℕ) (k : m ≤ w) (l : w ≤ length p) (r : i + length p ≤ length d) where
+  abbrev once : List ℕ
+  once = paste d i p w
+
+  once_is : over i (take (w - 0) p) d ≡ once
+  once_is = ap (λ n. over i (take n p) d) (sub-zero w) ∙ ap (λ n. take i d ++ take w p ++ drop (i + n) d) (length-take-le w p l)
+
+  rest : take (length p - m) (drop m p) ≡ drop m p
+  rest = take_all (length p - m) (drop m p) (rw length-drop (omega arith))
+
+  before : take (i + m) once ≡ take i d ++ take m p
+  before =
+      let e : length (take i d) + m ≡ i + m = rw (length-take-le i d (omega arith)) refl in
+      sym (take-take (i + m) (i + w) once (omega arith))
+      ∙ ap (take (i + m)) (take-paste d i p w (omega arith) l)
+      ∙ ap (λ n. take n (take i d ++ take w p)) (sym e)
+      ∙ take-append-add (take i d) (take w p) m
+      ∙ ap (λ x. take i d ++ x) (take-take m w p k)
+
+  behind : drop (i + m + length (drop m p)) once ≡ drop (i + length p) d
+  behind =
+      let e : i + m + length (drop m p) ≡ i + w + (length p - w) = rw length-drop (omega arith) in
+      let f : i + w + (length p - w) ≡ i + length p = omega arith in
+      ap (λ n. drop n once) e
+      ∙ sym (drop-drop (length p - w) (i + w) once)
+      ∙ ap (drop (length p - w)) (drop-paste d i p w (omega arith) l)
+      ∙ drop-drop (length p - w) (i + w) d
+      ∙ ap (λ n. drop n d) f
+
+  pub over_again : over (i + m) (take (length p - m) (drop m p)) (over i (take (w - 0) p) d) ≡ over i p d
+  over_again =
+      ap₂ (over (i + m)) rest once_is
+      ∙ ap₂ (λ x y. x ++ drop m p ++ y) before behind
+      ∙ ap (λ x. x ++ drop (i + length p) d) (append_assoc (take i d) (take m p) (drop m p) ∙ ap (λ x. take i d ++ x) (take-append-drop m p))
 
 module _ (h p : List ℕ) (i n : ℕ) (d : List ℕ) where
   pub gather_right : length h ≤ i → over 0 (take (i - length h + n - (i - length h)) (drop (i - length h) p)) d ≡ onto (take n (drop i (h ++ p))) d

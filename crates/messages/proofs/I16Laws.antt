@@ -1,19 +1,21 @@
 -- Numbers of 16 bits, as the code has them: read out of a field or a list, compared, and cast from and to 64 bits. Assumes nothing.
-use mathlib.Core.Path.{◌≡◌, sym, ap, ◌∙◌}
+use mathlib.Core.Path.{◌≡◌, sym, ap, ◌∙◌, refl}
 use mathlib.Core.List.{List}
-use mathlib.Core.Bool.{true}
-use Prim.Native.Nat.{ℕ, ◌-◌, ◌^◌, ◌≤◌, ◌<◌}
+use mathlib.Core.Bool.{true, false, true≢false}
+use Prim.Native.Nat.{ℕ, ◌-◌, ◌^◌, ◌≤◌, ◌<◌, suc}
 use native.Mathlib.Omega.{arith}
-use borrow.Author.Tests.{ltb-true, lt-ltb}
+use native.Mathlib.Nat.{not-suc-le-zero}
+use borrow.Author.Tests.{ltb-true, lt-ltb, le-ltb}
 use lib.IntN.{ℤ, pos, negsuc, ◌-ℤ◌}
+use lib.Dec.{ltb}
 use lib.Pow.{pow_mono}
-use lib.Signed.{mag}
+use lib.Signed.{mag, lt_z}
 use mir.Syntax.{w16, w64}
 use mir.Val.{SFits, to_z, of_z}
 use mir.ValLaws.{to_z_pos, to_z-of_z}
 use Rattle.bits.specs.Told.{Accepted}
 use Rattle.bits.specs.Field.{Reading, reading, read_twos, field}
-use Rattle.bits.specs.Signed.{twos_of, fits_twos}
+use Rattle.bits.specs.Signed.{twos_of, fits_twos, twos_bits}
 use Rattle.bits.proofs.FieldLaws.{field_lt}
 use Rattle.bits.proofs.SignedCode.{minus_one}
 use Rattle.bits.proofs.SignedLaws.{fits_twos_lem, twos_fits}
@@ -55,3 +57,27 @@ pub minus_one_16 : (n : ℕ) → n < 2 ^ 15 → (SFits w16 (negsuc 0 -ℤ to_z w
 minus_one_16 n h =
     let f : SFits w16 (negsuc n) = record { sfits = h } in
     rw (to_z_pos w16 n h, minus_one n) (f, to_z-of_z w16 (negsuc n) f)
+
+-- ---- the w bits of a number that fits them, below zero and else: each difference fits, and each cast is of a number from 0 on
+
+up : (n : ℕ) → negsuc 0 -ℤ negsuc n ≡ pos n
+up n = simp (le-ltb (suc n) 1 (omega arith)) (ap pos (omega arith))
+
+module _ (w : ℕ) (h : w ≤ 16) where
+  half : (n : ℕ) → ltb n (2 ^ (w - 1)) ≡ true → (n < 2 ^ (w - 1)) × (n < 2 ^ 15)
+  half n g =
+      let l : n < 2 ^ (w - 1) = ltb-true n (2 ^ (w - 1)) g in
+      (l, omega (arith, pow_mono {i = w - 1} {j = 15} (omega arith)))
+
+  pub bits_below : (z : ℤ) → SFits w16 z → fits_twos w z ≡ true → lt_z (to_z w16 (of_z w16 z)) (pos 0) ≡ true
+      → (SFits w16 (negsuc 0 -ℤ to_z w16 (of_z w16 z))) × (to_z w16 (of_z w16 (negsuc 0 -ℤ to_z w16 (of_z w16 z))) ≡ pos (mag z)) × (mag z < 2 ^ (w - 1)) × (2 ^ w - 1 - mag z ≡ twos_bits w z)
+  bits_below (pos n) f g e = absurd (not-suc-le-zero (ltb-true n 0 (rw (to_z-of_z w16 (pos n) f) at e)))
+  bits_below (negsuc n) f g e =
+      let l = half n g in
+      let k : SFits w16 (pos n) = record { sfits = l.1 } in
+      rw (to_z-of_z w16 (negsuc n) f, up n) (k, to_z-of_z w16 (pos n) k, l.0, omega arith)
+
+  pub bits_else : (z : ℤ) → SFits w16 z → fits_twos w z ≡ true → lt_z (to_z w16 (of_z w16 z)) (pos 0) ≡ false
+      → (to_z w16 (of_z w16 z) ≡ pos (mag z)) × (mag z < 2 ^ (w - 1)) × (mag z ≡ twos_bits w z)
+  bits_else (pos n) f g e = (to_z-of_z w16 (pos n) f, (half n g).0, refl)
+  bits_else (negsuc n) f g e = absurd (true≢false (rw (to_z-of_z w16 (negsuc n) f) at e))
