@@ -5,7 +5,7 @@ use mathlib.Core.List.{List, [], ◌∷◌, map}
 use Prim.Native.Nat.{ℕ, zero, suc, ◌+◌, ◌-◌, ◌*◌, ◌≤◌, ◌<◌}
 use native.Mathlib.Nat.{zero-add}
 use native.Mathlib.Omega.{arith}
-use borrow.Author.Tests.{eqb-true, eq-eqb}
+use borrow.Author.Tests.{eqb-true}
 use lib.IntN.{ℤ}
 use mir.Syntax.{w32}
 use mir.Val.{to_z, of_z}
@@ -40,11 +40,6 @@ alike l e =
       phases = sym (eqb-true n _ c.0);
       locks = sym (eqb-true n _ c.1);
     }
-
--- the last test of four
-pub even_last : (a b c d e : ℕ) → a ≡ b → a ≡ c → a ≡ d → eqb a e ≡ even_counts a b c d e
-unfolding even_counts
-even_last a b c d e p q r = rw (eq-eqb a b p, eq-eqb a c q, eq-eqb a d r)
 
 -- ---- storing
 

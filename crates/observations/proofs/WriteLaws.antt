@@ -92,24 +92,6 @@ all_fit i (o ∷ os) e =
 -- ---- the header
 
 module _ (h : Header) where
-  pub wide_station : 2 ^ 12 ≤ h.station → false ≡ header_fits h
-  wide_station p = rw (ltb_not (2 ^ 12) h.station p)
-
-  module _ (a : h.station < 2 ^ 12) where
-    pub wide_epoch : 2 ^ 30 ≤ h.epoch → false ≡ header_fits h
-    wide_epoch p = rw (lt-ltb _ _ a, ltb_not (2 ^ 30) h.epoch p)
-
-    module _ (b : h.epoch < 2 ^ 30) where
-      pub wide_synchronous : 2 ≤ h.synchronous → false ≡ header_fits h
-      wide_synchronous p = rw (lt-ltb _ _ a, lt-ltb _ _ b, ltb_not (2 ^ 1) h.synchronous p)
-
-      module _ (c : h.synchronous < 2) where
-        pub wide_smoothing : 2 ≤ h.smoothing → false ≡ header_fits h
-        wide_smoothing p = rw (lt-ltb _ _ a, lt-ltb _ _ b, lt-ltb h.synchronous (2 ^ 1) c, ltb_not (2 ^ 1) h.smoothing p)
-
-        pub interval_decides : h.smoothing < 2 → ltb h.interval 8 ≡ header_fits h
-        interval_decides d = rw (lt-ltb _ _ a, lt-ltb _ _ b, lt-ltb h.synchronous (2 ^ 1) c, lt-ltb h.smoothing (2 ^ 1) d)
-
   -- what fits is within its width
   pub record Within : Type 0 where
     pub station : h.station < 2 ^ 12

@@ -49,19 +49,11 @@ pub fn read(
 }
 
 // Whether five lengths are one.
+#[tactic(auto, unfolding(crate::specs::Lists::even_counts))]
 pub(crate) fn even(a: usize, b: usize, c: usize, d: usize, e: usize) -> bool
     ensures { result ≡ even_counts a b c d e }
 {
-    if a != b {
-        return false;
-    }
-    if a != c {
-        return false;
-    }
-    if a != d {
-        return false;
-    }
-    a == e
+    a == b && a == c && a == d && a == e
 }
 
 // ---- the first pass: the header, and whether all observations are there

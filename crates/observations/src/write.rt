@@ -59,19 +59,11 @@ pub fn write(
 fn header_fits(header: Header) -> bool
     ensures { result ≡ header_fits header }
 {
-    if 4095 < header.station {
-        return false;
-    }
-    if 0x3FFF_FFFF < header.epoch {
-        return false;
-    }
-    if 1 < header.synchronous {
-        return false;
-    }
-    if 1 < header.smoothing {
-        return false;
-    }
-    header.interval < 8
+    header.station < 4096
+        && header.epoch < 0x4000_0000
+        && header.synchronous < 2
+        && header.smoothing < 2
+        && header.interval < 8
 }
 
 // ---- refusals

@@ -6,7 +6,6 @@ use mathlib.Core.List.{List}
 use Prim.Native.Nat.{ℕ, ◌+◌, ◌-◌, ◌*◌, ◌≤◌, ◌<◌}
 use native.Mathlib.Decide.{dec_lt}
 use native.Mathlib.Omega.{arith}
-use borrow.Author.Tests.{lt-ltb, le-ltb}
 use lib.Dec.{eqb}
 use lib.ListN.{get_or, length}
 use Rattle.bits.specs.Told.{Told, Accepted, Refused, room}
@@ -92,11 +91,3 @@ fronted_back s p q t fs {call} past long stands room block is =
         ∙ ap (bit_at t) e
         ∙ block (k - p) (omega (arith, h, l, past))
         ∙ ap (bit_at s) (sym e)
-
--- ---- the bits of a message, as the code adds them
-
-pub raised_huge : (n k : ℕ) → 0xFFFFFFFF < k → k ≡ raised n k
-raised_huge n k h = rw (lt-ltb 0xFFFFFFFF k h)
-
-pub raised_small : (n k : ℕ) → k ≤ 0xFFFFFFFF → n + k ≡ raised n k
-raised_small n k h = rw (le-ltb 0xFFFFFFFF k h)

@@ -5,7 +5,7 @@ ghost use Rattle.formats.specs.Put.{RoomFor, IsPut};
 
 use bits::field;
 
-// Writes an unsigned number.
+// Writes an unsigned number. The same stands in observations and messages: a public function may ask nothing of its caller.
 pub(crate) fn unsigned(bytes: &mut [u8], at: usize, width: usize, value: u32) -> usize
     requires { RoomFor bytes.old at (bits width value ∷ []) × (1 ≤ width) × (width ≤ 64) × (value < 2 ^ width) }
     ensures { IsPut bytes.old at (bits width value ∷ []) bytes.new result }
