@@ -1,7 +1,7 @@
 // The recordings that the arguments name, one after another.
 use crate::options::{Argument, Settings};
 use reading::arguments::{Kind, Word};
-use reading::{Failure, Program, Recording, Source, arguments};
+use reading::{Failure, Mode, Program, Recording, Source, arguments};
 use std::env::Env;
 use std::fs::{File, Files};
 
@@ -65,6 +65,6 @@ fn visit_open(
     settings: Settings,
     visitor: &mut impl Visit,
 ) -> Result<(), Failure> {
-    let mut recording = Recording::new(source, name, program.terminal(), 0);
+    let mut recording = Recording::new(source, name, program.terminal(), Mode::Rtcm);
     visitor.visit(&mut recording, settings)
 }
