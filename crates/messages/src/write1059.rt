@@ -81,7 +81,7 @@ fn first_fault(mask: u32, satellites: &[u8], signals: &[u8], biases: &[i16]) -> 
     Ok(())
 }
 
-// The fault of record i. Both tests stand before the refusals: in this form many records are looked at by one instruction.
+// The first fault of record i.
 fn fault_of(mask: u32, i: usize, satellite: u8, signal: u8, bias: i16) -> Result<(), Refusal>
     ensures { told_fault result ≡ fault_by mask i (rec1059 satellite signal bias) }
 {
