@@ -1,20 +1,19 @@
 -- The first fault of records of message 1059, and what its absence says. Assumes nothing.
 use mathlib.Core.Path.{◌≡◌, sym, ap, ap₂, ◌∙◌}
-use mathlib.Core.Bool.{Bool, true, false, cond, not}
+use mathlib.Core.Bool.{Bool, cond, not}
 use mathlib.Core.List.{List, [], ◌∷◌}
 use Prim.Native.Nat.{ℕ, zero, suc, ◌+◌, ◌≤◌, ◌<◌}
 use native.Mathlib.Numerals.{add-one}
 use native.Mathlib.Omega.{arith}
-use borrow.Author.Tests.{lt-ltb, le-ltb}
 use lib.Dec.{ltb}
 use lib.ListN.{length, get_or}
 use lib.IntN.{ℤ, pos}
-use Rattle.bits.specs.Told.{Told, and_then, satellite, signal, range}
+use Rattle.bits.specs.Told.{Told, Refused, and_then, satellite, signal, range}
 use Rattle.bits.specs.Signed.{fits_twos}
 use Rattle.formats.specs.Written.{fine, first_fault}
 use Rattle.messages.specs.Every.{Every}
 use Rattle.messages.specs.Signals1059.{signals1059}
-use Rattle.messages.specs.StepsTable.{mask_of, in_mask}
+use Rattle.messages.specs.StepsTable.{mask_of}
 use Rattle.messages.specs.Records.{Rec1059, rec1059, records1059}
 use Rattle.messages.specs.Write1059.{fault1059}
 use Rattle.messages.specs.StepsWrite1059.{fault_by, Faultless}
@@ -47,27 +46,19 @@ first_fault_is edition mask rs t e f = sym (f ∙ ap (λ (m : ℕ). first_fault 
 -- ---- record i, as the code tests it
 
 module _ (mask : ℕ) (sats gs : List ℕ) (zs : List ℤ) (lg : length sats ≡ length gs) (lz : length sats ≡ length zs) (i : ℕ) (h : i < length sats) where
-  by_tests : first_fault (fault_by mask) i (from1059 sats gs zs i)
-      ≡ and_then (cond (ltb 63 (get_or sats i 0)) (satellite i) (cond (not (in_mask mask (get_or gs i 0))) (signal i) (cond (not (fits_twos 14 (get_or zs i (pos 0)))) (range i) fine)))
-      (λ u. first_fault (fault_by mask) (suc i) (from1059 sats gs zs (suc i)))
-  unfolding fault_by
-  by_tests =
+  by_record : first_fault (fault_by mask) i (from1059 sats gs zs i)
+      ≡ and_then (fault_by mask i (rec1059 (get_or sats i 0) (get_or gs i 0) (get_or zs i (pos 0)))) (λ u. first_fault (fault_by mask) (suc i) (from1059 sats gs zs (suc i)))
+  by_record =
       ap (first_fault (fault_by mask) i) (next1059 sats gs zs lg lz i h)
       ∙ fault_next (fault_by mask) i (rec1059 (get_or sats i 0) (get_or gs i 0) (get_or zs i (pos 0))) (from1059 sats gs zs (suc i))
 
-  pub is_satellite : 63 < get_or sats i 0 → satellite i ≡ first_fault (fault_by mask) i (from1059 sats gs zs i)
-  is_satellite a = rw (by_tests, lt-ltb 63 (get_or sats i 0) a)
+  pub fault_here : {n : ℕ} {carried : List ℕ} → fault_by mask i (rec1059 (get_or sats i 0) (get_or gs i 0) (get_or zs i (pos 0))) ≡ Refused n carried
+      → first_fault (fault_by mask) i (from1059 sats gs zs i) ≡ Refused n carried
+  fault_here e = rw (by_record, e)
 
-  module _ (a : get_or sats i 0 ≤ 63) where
-    pub is_signal_lem : in_mask mask (get_or gs i 0) ≡ false → signal i ≡ first_fault (fault_by mask) i (from1059 sats gs zs i)
-    is_signal_lem g = rw (by_tests, le-ltb 63 (get_or sats i 0) a, g)
-
-    pub is_range : in_mask mask (get_or gs i 0) ≡ true → fits_twos 14 (get_or zs i (pos 0)) ≡ false → range i ≡ first_fault (fault_by mask) i (from1059 sats gs zs i)
-    is_range g z = rw (by_tests, le-ltb 63 (get_or sats i 0) a, g, z)
-
-    pub is_fine : in_mask mask (get_or gs i 0) ≡ true → fits_twos 14 (get_or zs i (pos 0)) ≡ true
-        → first_fault (fault_by mask) i (from1059 sats gs zs i) ≡ first_fault (fault_by mask) (i + 1) (from1059 sats gs zs (i + 1))
-    is_fine g z = rw (add-one i, by_tests, le-ltb 63 (get_or sats i 0) a, g, z)
+  pub fine_here : fault_by mask i (rec1059 (get_or sats i 0) (get_or gs i 0) (get_or zs i (pos 0))) ≡ fine
+      → first_fault (fault_by mask) i (from1059 sats gs zs i) ≡ first_fault (fault_by mask) (i + 1) (from1059 sats gs zs (i + 1))
+  fine_here e = rw (add-one i, by_record, e)
 
 pub no_more : (mask : ℕ) (sats gs : List ℕ) (zs : List ℤ) (i : ℕ) → length sats ≤ i → first_fault (fault_by mask) i (from1059 sats gs zs i) ≡ fine
 no_more mask sats gs zs i h = ap (first_fault (fault_by mask) i) (end1059 sats gs zs i h) ∙ fault_none (fault_by mask) i

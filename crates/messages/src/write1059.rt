@@ -7,7 +7,7 @@ ghost use Rattle.messages.specs.Answers.{told_block};
 ghost use Rattle.formats.specs.Put.{RoomFor, IsPut};
 ghost use Rattle.formats.specs.Written.{first_fault};
 ghost use Rattle.messages.specs.StepsPen.{drawn};
-ghost use Rattle.messages.specs.Records.{records1059};
+ghost use Rattle.messages.specs.Records.{rec1059, records1059};
 ghost use Rattle.messages.specs.Writer.{first_repeat};
 ghost use Rattle.messages.specs.Write1059.{same_pair, write1059};
 ghost use Rattle.messages.specs.Layout1059.{of_satellite};
@@ -75,18 +75,25 @@ fn first_fault(mask: u32, satellites: &[u8], signals: &[u8], biases: &[i16]) -> 
     ensures { told_fault result ≡ first_fault (fault_by mask) 0 (records1059 satellites.now signals.now biases.now) }
 {
     for (i, satellite) in satellites.iter().enumerate() {
-        // Both before the tests: in this form many records are looked at by one instruction.
-        let known = in_mask(mask, signals[i]);
-        let fits = fits_bias(biases[i]);
-        if 63 < *satellite {
-            return Err(Refusal::Satellite(i));
-        }
-        if !known {
-            return Err(Refusal::Signal(i));
-        }
-        if !fits {
-            return Err(Refusal::Range(i));
-        }
+        fault_of(mask, i, *satellite, signals[i], biases[i])?;
+    }
+    Ok(())
+}
+
+// The first fault of record i.
+fn fault_of(mask: u32, i: usize, satellite: u8, signal: u8, bias: i16) -> Result<(), Refusal>
+    ensures { told_fault result ≡ fault_by mask i (rec1059 satellite signal bias) }
+{
+    let known = in_mask(mask, signal);
+    let fits = fits_bias(bias);
+    if 63 < satellite {
+        return Err(Refusal::Satellite(i));
+    }
+    if !known {
+        return Err(Refusal::Signal(i));
+    }
+    if !fits {
+        return Err(Refusal::Range(i));
     }
     Ok(())
 }

@@ -3,36 +3,27 @@ use mathlib.Core.Path.{sym, ap, ◌∙◌}
 use native.Mathlib.Omega.{arith}
 use lib.ListN.{get_or}
 use lib.IntN.{pos}
-use Rattle.bits.specs.Signed.{fits_twos}
+use Rattle.bits.proofs.RefusalLaws.{passed_on}
+use Rattle.messages.specs.Records.{rec1059}
+use Rattle.messages.specs.StepsWrite1059.{fault_by}
 use Rattle.messages.proofs.I16Laws.{same_16}
-use Rattle.messages.proofs.FaultLaws.{is_satellite, is_signal_lem, is_range, is_fine, no_more}
+use Rattle.messages.proofs.FaultLaws.{fault_here, fine_here, no_more}
 use Rattle.messages.proofs.write1059.first_fault.Goals as goal
 
-pub returns-then-satellite-gt63 : goal.returns-then-satellite-gt63
-returns-then-satellite-gt63 c =
+pub returns-in_err-fault_of : goal.returns-in_err-fault_of
+returns-in_err-fault_of c =
     let a = c.args in
     let l = c.loop-i in
-    sym (l.invariant ∙ sym (is_satellite a.mask a.satellites.now a.signals.now a.biases.now c.requires.0 c.requires.1 l.i (omega arith) c.if-satellite-gt63.true))
-
-pub returns-then-not-known : goal.returns-then-not-known
-returns-then-not-known c =
-    let a = c.args in
-    let l = c.loop-i in
-    sym (l.invariant ∙ sym (is_signal_lem a.mask a.satellites.now a.signals.now a.biases.now c.requires.0 c.requires.1 l.i (omega arith) (omega arith) (sym c.in_mask-known.ensures ∙ c.if-not-known.true)))
-
-pub returns-then-not-fits : goal.returns-then-not-fits
-returns-then-not-fits c =
-    let a = c.args in
-    let l = c.loop-i in
-    let e = c.fits_bias-fits.ensures ∙ ap (fits_twos 14) (same_16 (get_or a.biases.now l.i (pos 0)) (omega arith)) in
-    sym (l.invariant ∙ sym (is_range a.mask a.satellites.now a.signals.now a.biases.now c.requires.0 c.requires.1 l.i (omega arith) (omega arith) (sym c.in_mask-known.ensures ∙ c.if-not-known.false) (sym e ∙ c.if-not-fits.true)))
+    let z = same_16 (get_or a.biases.now l.i (pos 0)) (omega arith) in
+    passed_on (λ u. u) _ _ c.from_residual.ensures.1
+    ∙ sym (l.invariant ∙ fault_here a.mask a.satellites.now a.signals.now a.biases.now c.requires.0 c.requires.1 l.i (omega arith) (sym (c.in_err-fault_of.ensures ∙ ap (λ x. fault_by a.mask l.i (rec1059 (get_or a.satellites.now l.i 0) (get_or a.signals.now l.i 0) x)) z)))
 
 pub loop-i-preserved : goal.loop-i-preserved
 loop-i-preserved c =
     let a = c.args in
     let l = c.loop-i in
-    let e = c.fits_bias-fits.ensures ∙ ap (fits_twos 14) (same_16 (get_or a.biases.now l.i (pos 0)) (omega arith)) in
-    l.invariant ∙ is_fine a.mask a.satellites.now a.signals.now a.biases.now c.requires.0 c.requires.1 l.i (omega arith) (omega arith) (sym c.in_mask-known.ensures ∙ c.if-not-known.false) (sym e ∙ c.if-not-fits.false)
+    let z = same_16 (get_or a.biases.now l.i (pos 0)) (omega arith) in
+    l.invariant ∙ fine_here a.mask a.satellites.now a.signals.now a.biases.now c.requires.0 c.requires.1 l.i (omega arith) (sym (c.in_ok-fault_of.ensures ∙ ap (λ x. fault_by a.mask l.i (rec1059 (get_or a.satellites.now l.i 0) (get_or a.signals.now l.i 0) x)) z))
 
 pub returns : goal.returns
 returns c =
