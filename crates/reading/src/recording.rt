@@ -215,6 +215,25 @@ impl<'a> Recording<'a> {
     }
 }
 
+impl Before {
+    ghost use Rattle.std.specs.Prelude.{◌≡◌, ◌+◌, ◌%◌, ◌^◌};
+    ghost use Rattle.reading.specs.Number.{frame_in};
+
+    // The bytes held then.
+    pub fn held(&self) -> &[u8]
+        ensures { result.now ≡ frame_in self.now.held self.now.account.held }
+    {
+        crate::frame_of(&self.held, self.account.held)
+    }
+
+    // The place in the recording of the first of them: before it are the bytes in frames and the skipped ones.
+    pub fn place(&self) -> u64
+        ensures { result ≡ (self.now.account.framed + self.now.account.skipped) % 2 ^ 64 }
+    {
+        self.account.framed.wrapping_add(self.account.skipped)
+    }
+}
+
 // The bytes from one place to another.
 fn part(bytes: &[u8], from: usize, to: usize) -> &[u8]
     requires { (from ≤ to) × (to ≤ length bytes.now) }

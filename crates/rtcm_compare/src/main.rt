@@ -1,33 +1,16 @@
 // Compares a received frame with the sent one: shows the bytes from the first to the last that differs.
 #![tactic(auto)]
 
-use damage::compare;
-use damage::compare::Compared;
-use printing::{phrase, text};
-use reading::asked::Asked;
-use reading::load::Loaded;
-use reading::{arguments, asked, load};
+mod compared;
 
-fn main(rt: HostRuntime) {
-    let asked = asked::all(&rt);
-    if asked.help {
-        help(&rt);
-        return;
-    }
-    if asked.version {
-        arguments::version(&rt, b"rtcm_compare");
-        return;
-    }
-    if !answered(&rt, asked) {
-        arguments::failed(&rt, b"rtcm_compare");
-    }
-}
+use compared::compare;
+use damage::compare::differing;
+use printing::{Output, Terminal, Unwritten};
+use reading::{Failure, Program, asked, load};
+use std::env::Env;
+use std::fs::{File, Files};
 
-fn help(rt: &HostRuntime) {
-    arguments::tell(
-        rt,
-        b"rtcm_compare",
-        b"rtcm_compare [--] SENT RECEIVED
+const HELP: &str = "rtcm_compare [--] SENT RECEIVED
 
 Compares two files of the same length, at most 65,536 bytes (- is standard input), and shows the bytes
 from the first to the last that differs, as they were sent and as they were received.
@@ -38,135 +21,86 @@ from the first to the last that differs, as they were sent and as they were rece
 
 The exit status is always 0. If something failed, the last line on standard error is
 \"rtcm_compare: failed\".
-",
-    );
+";
+
+fn main(rt: HostRuntime) {
+    let terminal = Terminal::new(rt.stdout(), rt.stderr());
+    let program = Program::new("rtcm_compare", rt.stdin(), terminal);
+    if run(&rt, &program).is_err() {
+        program.failed();
+    }
 }
 
-// Compares what the arguments name, and tells whether that went well.
-fn answered(rt: &HostRuntime, asked: Asked) -> bool {
-    if asked.unknown != 0 {
-        arguments::unknown(rt, b"rtcm_compare", asked.unknown);
-        return false;
+// Does what the arguments ask.
+fn run(rt: &(impl Env + Files<File = File>), program: &Program) -> Result<(), Failure> {
+    let asked = asked::all(rt);
+    if asked.help {
+        return program.tell(HELP);
     }
-    if asked.second == 0 {
-        return misnamed(rt);
+    if asked.version {
+        return program.version();
     }
-    if asked.third != 0 {
-        return misnamed(rt);
+    if let Some(i) = asked.unknown {
+        return Err(program.unknown(rt, i));
     }
-    compare_files(rt, asked.first, asked.second, asked.rest)
+    match (asked.first, asked.second, asked.third) {
+        (Some(sent), Some(received), None) => {
+            compare_files(rt, program, sent, received, asked.rest)
+        }
+        _ => Err(program.misnamed("what was sent and what was received")),
+    }
 }
 
-fn misnamed(rt: &HostRuntime) -> bool {
-    arguments::misnamed(rt, b"rtcm_compare", b"what was sent and what was received");
-    false
-}
-
-fn compare_files(rt: &HostRuntime, first: usize, second: usize, rest: usize) -> bool {
+// Compares the files that two arguments name.
+fn compare_files(
+    rt: &(impl Env + Files<File = File>),
+    program: &Program,
+    first: usize,
+    second: usize,
+    rest: Option<usize>,
+) -> Result<(), Failure> {
     let mut sent = [0u8; 65536];
     let mut received = [0u8; 65536];
-    let Loaded::Bytes(n) = load::load(rt, first, rest, &mut sent) else {
-        return false;
-    };
-    let Loaded::Bytes(m) = load::load(rt, second, rest, &mut received) else {
-        return false;
-    };
-    show_first(rt, &sent, n, &received, m)
+    let n = load::load(rt, program, first, rest, &mut sent)?;
+    let m = load::load(rt, program, second, rest, &mut received)?;
+    show(program, &sent[..n], &received[..m])
 }
 
-// Compares the first n bytes with the first m.
-fn show_first(
-    rt: &HostRuntime,
-    sent: &[u8; 65536],
-    n: usize,
-    received: &[u8; 65536],
-    m: usize,
-) -> bool {
-    show(
-        rt,
-        reading::frame_of(sent, n),
-        reading::frame_of(received, m),
-    )
-}
-
-// Writes where they differ, and tells whether it could be written.
-fn show(rt: &HostRuntime, sent: &[u8], received: &[u8]) -> bool {
-    match compare::compare(sent, received) {
-        Compared::Size => refused(rt),
-        Compared::Differs { start, count } => show_part(rt, sent, received, start, count),
+// Writes where they differ.
+fn show(program: &Program, sent: &[u8], received: &[u8]) -> Result<(), Failure> {
+    let run = compare(sent, received).map_err(|_| refused(program))?;
+    let all = sent.len() as u64;
+    let mut out = program.output();
+    if run.count == 0 {
+        out.phrase("equal, ", all, 0, " bytes\n");
+        out.flush()?;
+        return Ok(());
     }
+    out.phrase("from byte ", run.start as u64, 0, " on, ");
+    out.phrase("", run.count as u64, 0, " of ");
+    out.phrase("", all, 0, " bytes\n");
+    row(&mut out, "  sent    ", differing(received, sent))?;
+    row(&mut out, "  received", differing(sent, received))?;
+    Ok(())
 }
 
-fn refused(rt: &HostRuntime) -> bool {
-    printing::say(
-        rt,
-        b"refused with Size: what was sent and what was received are not of the same length\n",
+fn refused(program: &Program) -> Failure {
+    program.terminal().say(
+        "refused with Size: what was sent and what was received are not of the same length\n",
     );
-    false
+    Failure::Refused
 }
 
-fn show_part(rt: &HostRuntime, sent: &[u8], received: &[u8], start: usize, count: usize) -> bool {
-    let mut out = [0u8; 65536];
-    let mut at: usize = 0;
-    if count == 0 {
-        told(rt, b"equal, ", sent.len(), b" bytes\n", &mut out, &mut at);
-        return printing::flush(rt, &out, &mut at);
-    }
-    told(rt, b"from byte ", start, b" on, ", &mut out, &mut at);
-    told(rt, b"", count, b" of ", &mut out, &mut at);
-    told(rt, b"", sent.len(), b" bytes\n", &mut out, &mut at);
-    if !row(
-        rt,
-        b"  sent    ",
-        compare::differing(received, sent),
-        &mut out,
-        &mut at,
-    ) {
-        return false;
-    }
-    row(
-        rt,
-        b"  received",
-        compare::differing(sent, received),
-        &mut out,
-        &mut at,
-    )
-}
-
-fn told(
-    rt: &HostRuntime,
-    before: &[u8],
-    n: usize,
-    behind: &[u8],
-    out: &mut [u8; 65536],
-    at: &mut usize,
-) {
-    phrase(rt, out, at, before, n as u64, 0, behind);
-}
-
-// Writes a line of bytes in hexadecimal digits, and tells whether it could be written.
-fn row(rt: &HostRuntime, words: &[u8], part: &[u8], out: &mut [u8; 65536], at: &mut usize) -> bool {
-    text(rt, out, at, words);
-    let n = part.len();
-    for i in 0..n {
-        text(rt, out, at, b" ");
-        printing::hex(rt, out, at, wide(part[i]), 2);
-        if !has_space(rt, out, at) {
-            return false;
+// Writes a line of bytes in hexadecimal digits. Where what waits is near the end of its area, it is written in between.
+fn row(out: &mut Output<Terminal>, words: &str, part: &[u8]) -> Result<(), Unwritten> {
+    out.text(words);
+    for byte in part {
+        out.text(" ");
+        out.hex(u64::from(*byte), 2);
+        if 65_000 <= out.waiting() {
+            out.flush()?;
         }
     }
-    text(rt, out, at, b"\n");
-    printing::flush(rt, out, at)
-}
-
-// Writes what waits where it is near the end of the area, and tells whether it could be written.
-fn has_space(rt: &HostRuntime, out: &[u8; 65536], at: &mut usize) -> bool {
-    if *at < 65_000 {
-        return true;
-    }
-    printing::flush(rt, out, at)
-}
-
-fn wide(x: u8) -> u64 {
-    x as u64
+    out.text("\n");
+    out.flush()
 }

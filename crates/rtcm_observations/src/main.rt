@@ -1,53 +1,18 @@
 // Shows the observations of recordings: each message 1001 as a table.
 #![tactic(auto)]
 
+mod observed;
 mod table;
 
 use frames::frame;
+use printing::{Output, Terminal};
 use reading::arguments::Kind;
-use reading::{Account, Source, Step, arguments, asked};
+use reading::{Failure, Program, Recording, Source, Step, arguments, asked};
+use std::env::Env;
+use std::fs::{File, Files};
 use table::Tally;
 
-// What a recording came to.
-#[derive(Clone, Copy)]
-enum End {
-    Well,
-    // It could not be read to its end.
-    Failed,
-    // The output cannot be written: the program stops.
-    Stopped,
-}
-
-fn main(rt: HostRuntime) {
-    let asked = asked::all(&rt);
-    if asked.help {
-        help(&rt);
-        return;
-    }
-    if asked.version {
-        arguments::version(&rt, b"rtcm_observations");
-        return;
-    }
-    if asked.unknown != 0 {
-        arguments::unknown(&rt, b"rtcm_observations", asked.unknown);
-        arguments::failed(&rt, b"rtcm_observations");
-        return;
-    }
-    if asked.first == 0 {
-        arguments::no_file(&rt, b"rtcm_observations");
-        arguments::failed(&rt, b"rtcm_observations");
-        return;
-    }
-    if !show_all(&rt, asked.rest) {
-        arguments::failed(&rt, b"rtcm_observations");
-    }
-}
-
-fn help(rt: &HostRuntime) {
-    arguments::tell(
-        rt,
-        b"rtcm_observations",
-        b"rtcm_observations [--] FILE..
+const HELP: &str = "rtcm_observations [--] FILE..
 
 Shows the RTCM 3 messages 1001 (GPS L1 observations) of each file (- is standard input): a table for
 each message, with the raw numbers and the metres that they stand for. A table is shown when its
@@ -59,143 +24,118 @@ frame has arrived.
 
 The exit status is always 0. If something failed, the last line on standard error is
 \"rtcm_observations: failed\".
-",
-    );
+";
+
+fn main(rt: HostRuntime) {
+    let terminal = Terminal::new(rt.stdout(), rt.stderr());
+    let program = Program::new("rtcm_observations", rt.stdin(), terminal);
+    if run(&rt, &program).is_err() {
+        program.failed();
+    }
 }
 
-// Shows what the arguments name, one after another, and answers whether all went well.
-fn show_all(rt: &HostRuntime, rest: usize) -> bool {
-    let mut out = [0u8; 65536];
-    let mut at: usize = 0;
-    let mut is_well = true;
+// Does what the arguments ask.
+fn run(rt: &(impl Env + Files<File = File>), program: &Program) -> Result<(), Failure> {
+    let asked = asked::all(rt);
+    if asked.help {
+        return program.tell(HELP);
+    }
+    if asked.version {
+        return program.version();
+    }
+    if let Some(i) = asked.unknown {
+        return Err(program.unknown(rt, i));
+    }
+    if asked.first.is_none() {
+        return Err(program.no_file());
+    }
+    show_all(rt, program, asked.rest)
+}
+
+// Shows what the arguments name, one after another.
+fn show_all(
+    rt: &(impl Env + Files<File = File>),
+    program: &Program,
+    rest: Option<usize>,
+) -> Result<(), Failure> {
+    let mut out = program.output();
+    let mut all = Ok(());
     for i in 1..arguments::count(rt) {
-        match show_argument(rt, i, rest, &mut out, &mut at) {
-            End::Well => {}
-            End::Failed => {
-                is_well = false;
-            }
-            End::Stopped => {
-                return false;
-            }
+        match show_argument(rt, program, i, rest, &mut out) {
+            Ok(()) => {}
+            Err(Failure::Unwritten) => return Err(Failure::Unwritten),
+            Err(failure) => all = Err(failure),
         }
     }
-    is_well
+    all
 }
 
 // Shows what argument i names, if it names a recording.
 fn show_argument(
-    rt: &HostRuntime,
+    rt: &(impl Env + Files<File = File>),
+    program: &Program,
     i: usize,
-    rest: usize,
-    out: &mut [u8; 65536],
-    at: &mut usize,
-) -> End {
-    let mut word = [0u8; 4096];
-    let Some(n) = arguments::named(rt, i, &mut word) else {
-        return End::Failed;
-    };
-    match asked::kind_of(&word[..n], i, rest) {
-        Kind::File => show_file(rt, &word[..n], out, at),
-        Kind::Input => show_open(
-            rt,
-            &mut Source::Input(rt.stdin()),
-            b"standard input",
-            out,
-            at,
-        ),
-        _ => End::Well,
+    rest: Option<usize>,
+    out: &mut Output<Terminal>,
+) -> Result<(), Failure> {
+    let word = program.word(rt, i)?;
+    let path = word.bytes();
+    match asked::kind_of(path, i, rest) {
+        Kind::File => show_open(program, program.open(rt, path)?, path, out),
+        Kind::Input => show_open(program, program.input(), b"standard input", out),
+        _ => Ok(()),
     }
 }
 
-fn show_file(rt: &HostRuntime, path: &[u8], out: &mut [u8; 65536], at: &mut usize) -> End {
-    match arguments::open(rt, path) {
-        Some(mut source) => show_open(rt, &mut source, path, out, at),
-        None => End::Failed,
-    }
-}
-
-// Shows an open recording.
+// Shows an open recording, and writes what stands behind its last message.
 fn show_open(
-    rt: &HostRuntime,
-    source: &mut Source,
+    program: &Program,
+    source: Source,
     name: &[u8],
-    out: &mut [u8; 65536],
-    at: &mut usize,
-) -> End {
-    let end = show(rt, source, name, out, at);
-    if !printing::flush(rt, out, at) {
-        return End::Stopped;
+    out: &mut Output<Terminal>,
+) -> Result<(), Failure> {
+    let mut recording = Recording::new(source, name, program.terminal(), 0);
+    let mut tally = Tally::none();
+    let end = show(&mut recording, &mut tally, out);
+    if let Err(Failure::Unwritten) = end {
+        return end;
     }
+    table::closing(out, recording.account(), tally);
+    out.flush()?;
     end
 }
 
-// Goes through the frames; the table of a message is written when its frame has arrived.
+// Goes through the frames; the table of a message is written when its frame has arrived. A recording in which nothing was is
+// named on standard error.
 fn show(
-    rt: &HostRuntime,
-    source: &mut Source,
-    name: &[u8],
-    out: &mut [u8; 65536],
-    at: &mut usize,
-) -> End {
-    let mut held = [0u8; 1029];
-    let mut piece = [0u8; 65536];
-    let mut bytes = [0u8; 1029];
-    let mut account = reading::start();
-    let mut tally = table::none();
+    recording: &mut Recording,
+    tally: &mut Tally,
+    out: &mut Output<Terminal>,
+) -> Result<(), Failure> {
     for _ in 0..u64::MAX {
-        match reading::next(rt, source, name, &mut held, &mut piece, &mut bytes, account) {
-            Step::Frame {
-                place,
-                length,
-                account: a,
-            } => {
-                tally = show_frame(rt, &bytes, length, place, tally, out, at);
-                account = a;
-                if !printing::flush(rt, out, at) {
-                    return End::Stopped;
+        let is_first = recording.account().bytes == 0;
+        match recording.next()? {
+            Step::Frame(found) => {
+                show_frame(out, recording.frame(), found.place, tally);
+                out.flush()?;
+            }
+            Step::Piece => {
+                if is_first {
+                    table::opening(out, recording.name());
                 }
             }
-            Step::Piece(a) => {
-                table::opening(rt, name, account, out, at);
-                account = a;
-            }
-            Step::End(a) => return ended(rt, name, a, tally, out, at),
-            Step::Failed(a) => {
-                table::closing(rt, a, tally, out, at);
-                return End::Failed;
+            Step::End => {
+                recording.say_if_empty();
+                return Ok(());
             }
         }
     }
-    End::Well
-}
-
-// What stands behind the last message. A recording in which nothing was is named on standard error.
-fn ended(
-    rt: &HostRuntime,
-    name: &[u8],
-    account: Account,
-    tally: Tally,
-    out: &mut [u8; 65536],
-    at: &mut usize,
-) -> End {
-    arguments::empty(rt, name, account);
-    table::closing(rt, account, tally, out, at);
-    End::Well
+    Ok(())
 }
 
 // Shows the frame, if its message is 1001.
-fn show_frame(
-    rt: &HostRuntime,
-    bytes: &[u8; 1029],
-    length: usize,
-    place: u64,
-    tally: Tally,
-    out: &mut [u8; 65536],
-    at: &mut usize,
-) -> Tally {
-    let frame = reading::frame_of(bytes, length);
-    if reading::number_of(frame) == 1001 {
-        return table::message(rt, frame::data_of(frame), place, tally, out, at);
+fn show_frame(out: &mut Output<Terminal>, bytes: &[u8], place: u64, tally: &mut Tally) {
+    if reading::number_of(bytes) == Some(1001) {
+        table::message(out, frame::data_of(bytes), place, tally);
     }
-    tally
 }

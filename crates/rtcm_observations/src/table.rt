@@ -1,263 +1,183 @@
 // The table of one message.
-use observations::answer::MessageRead;
-use observations::measured::Measured;
-use observations::{measured, read};
-use printing::{Amount, phrase, text, unsigned};
+use crate::observed::Message;
+use crate::{observed as measured, observed as read};
+use bits::refusal::Refusal;
+use observations::answer::Observation;
+use printing::{Amount, Output, Terminal};
 use reading::Account;
-use std::num;
 
-// How many messages were read, and how many were refused.
-#[derive(Clone, Copy)]
+// How many messages were read, and how many were refused. Sums go round at 2^64.
+#[derive(Clone, Copy, PartialEq, Eq)]
 pub struct Tally {
-    pub read: u64,
-    pub refused: u64,
+    read: u64,
+    refused: u64,
 }
 
-pub fn none() -> Tally {
-    Tally {
-        read: 0,
-        refused: 0,
+impl Tally {
+    pub fn none() -> Tally {
+        Tally {
+            read: 0,
+            refused: 0,
+        }
+    }
+
+    // One more message.
+    fn count(&mut self, answer: &Result<Message, Refusal>) {
+        let counter = match answer {
+            Ok(_) => &mut self.read,
+            Err(_) => &mut self.refused,
+        };
+        *counter = counter.wrapping_add(1);
+    }
+}
+
+// The observations of a message, which has at most 31: number i is number i of each list.
+#[derive(Drop)]
+struct Observations {
+    satellites: [u8; 31],
+    codes: [u8; 31],
+    pseudoranges: [u32; 31],
+    phases: [i32; 31],
+    locks: [u8; 31],
+}
+
+impl Observations {
+    fn none() -> Observations {
+        Observations {
+            satellites: [0; 31],
+            codes: [0; 31],
+            pseudoranges: [0; 31],
+            phases: [0; 31],
+            locks: [0; 31],
+        }
+    }
+
+    // Reads those of the message.
+    fn read(&mut self, data: &[u8]) -> Result<Message, Refusal> {
+        read::read(
+            data,
+            &mut self.satellites,
+            &mut self.codes,
+            &mut self.pseudoranges,
+            &mut self.phases,
+            &mut self.locks,
+        )
+    }
+
+    // A row for each of the first so many.
+    fn rows(&self, out: &mut Output<Terminal>, count: usize) {
+        let whose = self.satellites.iter().zip(&self.codes);
+        let measured = self.pseudoranges.iter().zip(&self.phases);
+        let all = whose.zip(measured).zip(&self.locks);
+        for (((satellite, code), (pseudorange, phase)), lock) in all.take(count) {
+            let seen = Observation {
+                satellite: *satellite,
+                code: *code,
+                pseudorange: *pseudorange,
+                phase: *phase,
+                lock: *lock,
+            };
+            row(out, seen);
+        }
     }
 }
 
 // Before the first piece: the name.
-pub fn opening(
-    rt: &HostRuntime,
-    name: &[u8],
-    account: Account,
-    out: &mut [u8; 65536],
-    at: &mut usize,
-) {
-    if account.bytes != 0 {
-        return;
-    }
-    text(rt, out, at, name);
-    text(rt, out, at, b"\n");
+pub fn opening(out: &mut Output<Terminal>, name: &[u8]) {
+    out.bytes(name);
+    out.text("\n");
 }
 
 // The message of the data.
-pub fn message(
-    rt: &HostRuntime,
-    data: &[u8],
-    place: u64,
-    tally: Tally,
-    out: &mut [u8; 65536],
-    at: &mut usize,
-) -> Tally {
-    let mut satellites = [0u8; 31];
-    let mut codes = [0u8; 31];
-    let mut pseudoranges = [0u32; 31];
-    let mut phases = [0i32; 31];
-    let mut locks = [0u8; 31];
-    phrase(rt, out, at, b"  message 1001 at byte ", place, 0, b"");
-    let answer = read::read(
-        data,
-        &mut satellites,
-        &mut codes,
-        &mut pseudoranges,
-        &mut phases,
-        &mut locks,
-    );
-    let after = counted(&answer, tally);
-    let count = heading(rt, answer, out, at);
-    rows(
-        rt,
-        count,
-        &satellites,
-        &codes,
-        &pseudoranges,
-        &phases,
-        &locks,
-        out,
-        at,
-    );
-    after
-}
-
-// One message more.
-fn counted(answer: &MessageRead, tally: Tally) -> Tally {
+pub fn message(out: &mut Output<Terminal>, data: &[u8], place: u64, tally: &mut Tally) {
+    let mut observations = Observations::none();
+    let answer = observations.read(data);
+    tally.count(&answer);
+    out.phrase("  message 1001 at byte ", place, 0, "");
     match answer {
-        MessageRead::Observations { .. } => Tally {
-            read: num::wrapping_add_u64(tally.read, 1),
-            refused: tally.refused,
-        },
-        _ => Tally {
-            read: tally.read,
-            refused: num::wrapping_add_u64(tally.refused, 1),
-        },
+        Ok(message) => {
+            heading(out, message);
+            observations.rows(out, message.count);
+        }
+        Err(refusal) => refused(out, refusal),
     }
 }
 
 // Behind the last message, if anything was read: how many were read and refused, or why there is none.
-pub fn closing(
-    rt: &HostRuntime,
-    account: Account,
-    tally: Tally,
-    out: &mut [u8; 65536],
-    at: &mut usize,
-) {
+pub fn closing(out: &mut Output<Terminal>, account: Account, tally: Tally) {
     if account.bytes == 0 {
         return;
     }
     if account.frames == 0 {
-        text(rt, out, at, b"  no frames\n\n");
+        out.text("  no frames\n\n");
         return;
     }
-    if is_none(tally) {
-        phrase(
-            rt,
-            out,
-            at,
-            b"  no message 1001 in ",
-            account.frames,
-            0,
-            b" frames\n\n",
-        );
+    if tally == Tally::none() {
+        out.phrase("  no message 1001 in ", account.frames, 0, " frames\n\n");
         return;
     }
-    phrase(rt, out, at, b"  ", tally.read, 0, b" messages read, ");
-    phrase(rt, out, at, b"", tally.refused, 0, b" refused\n\n");
+    out.phrase("  ", tally.read, 0, " messages read, ");
+    out.phrase("", tally.refused, 0, " refused\n\n");
 }
 
-fn is_none(tally: Tally) -> bool {
-    if tally.read != 0 {
-        return false;
-    }
-    tally.refused == 0
+// The head of a message.
+fn heading(out: &mut Output<Terminal>, message: Message) {
+    let header = message.header;
+    out.phrase(": station ", u64::from(header.station), 0, ", epoch ");
+    out.unsigned(u64::from(header.epoch), 0);
+    out.phrase(" ms, ", message.count as u64, 0, " observations\n");
 }
 
-// The head of a message: its header, or why it is refused. Answers how many rows follow.
-fn heading(rt: &HostRuntime, answer: MessageRead, out: &mut [u8; 65536], at: &mut usize) -> usize {
-    match answer {
-        MessageRead::Observations {
-            header,
-            count,
-            end: _,
-        } => {
-            phrase(
-                rt,
-                out,
-                at,
-                b": station ",
-                header.station as u64,
-                0,
-                b", epoch ",
-            );
-            unsigned(rt, out, at, header.epoch as u64, 0);
-            phrase(rt, out, at, b" ms, ", count as u64, 0, b" observations\n");
-            count
+// Why a message is refused.
+fn refused(out: &mut Output<Terminal>, refusal: Refusal) {
+    match refusal {
+        Refusal::Short { place, .. } => {
+            out.phrase(": refused, Short at data bit ", place as u64, 0, "\n");
         }
-        MessageRead::Size => refused(rt, b": refused, Size\n", out, at),
-        MessageRead::Short(place, _) => cut(rt, place, out, at),
-        MessageRead::Kind => refused(rt, b": refused, Kind\n", out, at),
-        MessageRead::Room(_) => refused(rt, b": refused, Room\n", out, at),
+        Refusal::Kind => out.text(": refused, Kind\n"),
+        Refusal::Room(_) => out.text(": refused, Room\n"),
+        // Reading a message gives no other one.
+        _ => out.text(": refused, Size\n"),
     }
 }
 
-fn refused(rt: &HostRuntime, words: &[u8], out: &mut [u8; 65536], at: &mut usize) -> usize {
-    text(rt, out, at, words);
-    0
+fn row(out: &mut Output<Terminal>, seen: Observation) {
+    out.phrase("    satellite ", u64::from(seen.satellite), 2, ", code ");
+    out.unsigned(u64::from(seen.code), 0);
+    pseudorange(out, seen.pseudorange);
+    phase(out, seen.phase);
+    out.phrase(", lock ", u64::from(seen.lock), 3, "\n");
 }
 
-fn cut(rt: &HostRuntime, place: usize, out: &mut [u8; 65536], at: &mut usize) -> usize {
-    phrase(
-        rt,
-        out,
-        at,
-        b": refused, Short at data bit ",
-        place as u64,
-        0,
-        b"\n",
-    );
-    0
-}
-
-// The rows of the first `count` observations.
-fn rows(
-    rt: &HostRuntime,
-    count: usize,
-    satellites: &[u8; 31],
-    codes: &[u8; 31],
-    pseudoranges: &[u32; 31],
-    phases: &[i32; 31],
-    locks: &[u8; 31],
-    out: &mut [u8; 65536],
-    at: &mut usize,
-) {
-    for i in 0..31 {
-        if count <= i {
-            return;
-        }
-        phrase(
-            rt,
-            out,
-            at,
-            b"    satellite ",
-            wide(satellites[i]),
-            2,
-            b", code ",
-        );
-        unsigned(rt, out, at, wide(codes[i]), 0);
-        pseudorange(rt, pseudoranges[i], out, at);
-        phase(rt, phases[i], out, at);
-        phrase(rt, out, at, b", lock ", wide(locks[i]), 3, b"\n");
-    }
-}
-
-fn wide(n: u8) -> u64 {
-    n as u64
-}
-
-// A pseudorange: its raw number, and the metres.
-fn pseudorange(rt: &HostRuntime, raw: u32, out: &mut [u8; 65536], at: &mut usize) {
-    let n = raw as u64;
-    phrase(rt, out, at, b", pseudorange ", n, 8, b" ");
+// A pseudorange: its raw number, and the metres, each of which is 50 of it.
+fn pseudorange(out: &mut Output<Terminal>, raw: u32) {
+    out.phrase(", pseudorange ", u64::from(raw), 8, " ");
     match measured::pseudorange(raw) {
-        Measured::Absent => text(rt, out, at, b"    absent"),
-        _ => printing::hundredths(
-            rt,
-            out,
-            at,
-            Amount {
-                negative: false,
-                size: num::wrapping_add_u64(n, n),
-            },
-            10,
-        ),
+        None => out.text("    absent"),
+        Some(_) => out.hundredths(Amount::from(i64::from(raw) * 2), 10),
     }
 }
 
 // A phase range: its raw number, and the metres.
-fn phase(rt: &HostRuntime, raw: i32, out: &mut [u8; 65536], at: &mut usize) {
-    let amount = amount_of(raw);
-    text(rt, out, at, b", phase ");
-    printing::signed(rt, out, at, amount, 7);
+fn phase(out: &mut Output<Terminal>, raw: i32) {
+    out.text(", phase ");
+    out.signed(Amount::from(i64::from(raw)), 7);
     match measured::phase(raw) {
-        Measured::Absent => text(rt, out, at, b"    absent"),
-        _ => metres(rt, amount, out, at),
+        None => out.text("    absent"),
+        Some(_) => metres(out, raw),
     }
 }
 
-fn amount_of(raw: i32) -> Amount {
-    printing::amount_of(raw as i64)
-}
-
 // So many times 0.0005 m, in metres with four digits behind the point.
-fn metres(rt: &HostRuntime, raw: Amount, out: &mut [u8; 65536], at: &mut usize) {
-    let twice = num::wrapping_add_u64(raw.size, raw.size);
-    let n = num::wrapping_add_u64(num::wrapping_add_u64(twice, twice), raw.size);
-    printing::signed(
-        rt,
-        out,
-        at,
-        Amount {
-            negative: raw.negative,
-            size: n / 10_000,
-        },
-        5,
-    );
-    phrase(rt, out, at, b".", n / 1000 % 10, 0, b"");
-    unsigned(rt, out, at, n / 100 % 10, 0);
-    unsigned(rt, out, at, n / 10 % 10, 0);
-    unsigned(rt, out, at, n % 10, 0);
+fn metres(out: &mut Output<Terminal>, raw: i32) {
+    let n = u64::from(raw.unsigned_abs()) * 5;
+    let whole = Amount {
+        negative: raw < 0,
+        size: n / 10_000,
+    };
+    out.signed(whole, 5);
+    out.phrase(".", n / 1000 % 10, 0, "");
+    out.unsigned(n / 100 % 10, 0);
+    out.unsigned(n / 10 % 10, 0);
+    out.unsigned(n % 10, 0);
 }

@@ -1,270 +1,231 @@
-// The list of what is given up: a row for each run of bytes with one reason, and the closing counts. It is gathered in a
-// lent area and written to standard error or to a file.
+// The list of what is given up: a row for each run of bytes with one reason, and the closing counts. It goes to standard
+// error or to a file.
 use closing::reason::{Ruled, Skip};
-use printing::{fail, phrase, text, unsigned};
+use printing::{Output, Sink, Terminal, Unwritten};
 use reading::Account;
 use std::fs::File;
-use std::io::{Stderr, Write};
-use std::{io, num};
+use std::io::{Print, Write};
 
-// Where the list goes.
+// Where the list goes: to the file, if there is one, else to standard error.
 #[derive(Drop)]
-pub enum Log {
-    Errors(Stderr),
-    File(File),
+pub struct Log {
+    terminal: Terminal,
+    file: Option<File>,
 }
 
 impl Log {
-    fn write_all(&mut self, words: &[u8]) -> io::Result<()> {
-        match self {
-            Log::Errors(errors) => errors.write_all(words),
-            Log::File(file) => file.write_all(words),
+    pub fn new(terminal: Terminal, file: Option<File>) -> Log {
+        Log { terminal, file }
+    }
+}
+
+impl Sink for Log {
+    fn put(&mut self, words: &[u8]) -> Result<(), Unwritten> {
+        let written = match &mut self.file {
+            Some(file) => file.write_all(words),
+            None => Print::write_all(&self.terminal.errors(), words),
+        };
+        match written {
+            Ok(()) => Ok(()),
+            Err(error) => {
+                self.terminal.fail(b"list", &error);
+                Err(Unwritten)
+            }
         }
     }
 }
 
 // Why a byte is given up.
-#[derive(Clone, Copy)]
+#[derive(Clone, Copy, PartialEq, Eq)]
 pub enum Why {
     NotD3,
     BadCheck,
     Unfinished,
 }
 
-// The run of bytes that is not written yet, with the number of its reason, or 0 bytes; how many bytes have each reason; and
-// whether all rows could be written.
-#[derive(Clone, Copy)]
-pub struct Given {
-    pub place: u64,
-    pub bytes: u64,
-    pub why: u32,
-    pub not_d3: u64,
-    pub bad_check: u64,
-    pub unfinished: u64,
-    pub is_written: bool,
-}
-
-pub fn none() -> Given {
-    Given {
-        place: 0,
-        bytes: 0,
-        why: 0,
-        not_d3: 0,
-        bad_check: 0,
-        unfinished: 0,
-        is_written: true,
+impl Why {
+    fn name(self) -> &'static str {
+        match self {
+            Why::NotD3 => "  not D3\n",
+            Why::BadCheck => "  bad check\n",
+            Why::Unfinished => "  unfinished candidate\n",
+        }
     }
 }
 
 // Why a byte was skipped while feeding.
-pub fn of_skip(skip: Skip) -> Why {
-    match skip {
-        Skip::NotD3 => Why::NotD3,
-        Skip::BadCheck => Why::BadCheck,
+impl From<Skip> for Why {
+    fn from(skip: Skip) -> Why {
+        match skip {
+            Skip::NotD3 => Why::NotD3,
+            Skip::BadCheck => Why::BadCheck,
+        }
     }
 }
 
 // Why a byte is given up while closing.
-pub fn of_ruled(ruled: Ruled) -> Why {
-    match ruled {
-        Ruled::BadCheck {
-            sent: _,
-            computed: _,
-        } => Why::BadCheck,
-        Ruled::Unfinished => Why::Unfinished,
-        _ => Why::NotD3,
+impl From<Ruled> for Why {
+    fn from(ruled: Ruled) -> Why {
+        match ruled {
+            Ruled::BadCheck { .. } => Why::BadCheck,
+            Ruled::Unfinished => Why::Unfinished,
+            _ => Why::NotD3,
+        }
     }
 }
 
-fn number_of(why: Why) -> u32 {
-    match why {
-        Why::NotD3 => 1,
-        Why::BadCheck => 2,
-        Why::Unfinished => 3,
-    }
-}
-
-// Adds the name of a reason.
-fn name(rt: &HostRuntime, out: &mut [u8; 65536], at: &mut usize, why: u32) {
-    if why == 1 {
-        text(rt, out, at, b"  not D3\n");
-        return;
-    }
-    if why == 2 {
-        text(rt, out, at, b"  bad check\n");
-        return;
-    }
-    text(rt, out, at, b"  unfinished candidate\n");
-}
-
-// Before the first row: the name, and the heads of the columns.
-pub fn opening(rt: &HostRuntime, out: &mut [u8; 65536], at: &mut usize, name: &[u8]) {
-    text(rt, out, at, name);
-    text(rt, out, at, b"\n       place       bytes  given up as\n");
-}
-
-// One more byte: it lengthens the run, or the run is written and another begins.
-pub fn add(
-    rt: &HostRuntime,
-    out: &mut [u8; 65536],
-    at: &mut usize,
-    log: &mut Log,
-    given: Given,
+// A run of bytes with one reason.
+#[derive(Clone, Copy)]
+struct Run {
     place: u64,
+    bytes: u64,
     why: Why,
-) -> Given {
-    let now = counted(given, why);
-    let number = number_of(why);
-    if now.why == number {
-        if num::wrapping_add_u64(now.place, now.bytes) == place {
-            return longer(now);
-        }
-    }
-    let written = row(rt, out, at, log, now);
-    Given {
-        place,
-        bytes: 1,
-        why: number,
-        not_d3: written.not_d3,
-        bad_check: written.bad_check,
-        unfinished: written.unfinished,
-        is_written: written.is_written,
+}
+
+impl Run {
+    // Whether a byte at the place, with the reason, lengthens it.
+    fn is_lengthened_by(self, place: u64, why: Why) -> bool {
+        self.why == why && self.place.wrapping_add(self.bytes) == place
     }
 }
 
-fn longer(given: Given) -> Given {
-    let mut now = given;
-    now.bytes = num::wrapping_add_u64(given.bytes, 1);
-    now
+// How many bytes have each reason. Sums go round at 2^64.
+#[derive(Clone, Copy)]
+struct Counts {
+    not_d3: u64,
+    bad_check: u64,
+    unfinished: u64,
 }
 
-fn counted(given: Given, why: Why) -> Given {
-    let mut now = given;
-    match why {
-        Why::NotD3 => {
-            now.not_d3 = num::wrapping_add_u64(given.not_d3, 1);
-        }
-        Why::BadCheck => {
-            now.bad_check = num::wrapping_add_u64(given.bad_check, 1);
-        }
-        Why::Unfinished => {
-            now.unfinished = num::wrapping_add_u64(given.unfinished, 1);
+impl Counts {
+    fn none() -> Counts {
+        Counts {
+            not_d3: 0,
+            bad_check: 0,
+            unfinished: 0,
         }
     }
-    now
-}
 
-// Writes the run, if it has a byte.
-pub fn row(
-    rt: &HostRuntime,
-    out: &mut [u8; 65536],
-    at: &mut usize,
-    log: &mut Log,
-    given: Given,
-) -> Given {
-    if given.bytes == 0 {
-        return given;
-    }
-    unsigned(rt, out, at, given.place, 12);
-    unsigned(rt, out, at, given.bytes, 12);
-    name(rt, out, at, given.why);
-    let mut now = given;
-    now.bytes = 0;
-    now.why = 0;
-    if 60000 < *at {
-        if !flush(rt, out, at, log) {
-            now.is_written = false;
+    // One more byte.
+    fn count(self, why: Why) -> Counts {
+        match why {
+            Why::NotD3 => Counts {
+                not_d3: self.not_d3.wrapping_add(1),
+                ..self
+            },
+            Why::BadCheck => Counts {
+                bad_check: self.bad_check.wrapping_add(1),
+                ..self
+            },
+            Why::Unfinished => Counts {
+                unfinished: self.unfinished.wrapping_add(1),
+                ..self
+            },
         }
     }
-    now
-}
 
-// Writes what waits, and answers whether it could be written.
-pub fn flush(rt: &HostRuntime, out: &[u8; 65536], at: &mut usize, log: &mut Log) -> bool {
-    let n = *at;
-    *at = 0;
-    match log.write_all(reading::frame_of(out, n)) {
-        Ok(()) => true,
-        Err(error) => {
-            fail(rt, b"list", &error);
-            false
-        }
+    fn sum(self) -> u64 {
+        self.not_d3
+            .wrapping_add(self.bad_check)
+            .wrapping_add(self.unfinished)
     }
 }
 
-// The closing counts, where `fed` is the account before closing and `account` the one behind it.
-pub fn closing(
-    rt: &HostRuntime,
-    out: &mut [u8; 65536],
-    at: &mut usize,
-    fed: Account,
-    account: Account,
-    given: Given,
-) {
-    line(rt, out, at, b"  bytes           ", account.bytes);
-    line(rt, out, at, b"  frames fed      ", fed.frames);
-    line(rt, out, at, b"    bytes         ", fed.framed);
-    line(
-        rt,
-        out,
-        at,
-        b"  frames salvaged ",
-        num::wrapping_sub_u64(account.frames, fed.frames),
-    );
-    line(
-        rt,
-        out,
-        at,
-        b"    bytes         ",
-        num::wrapping_sub_u64(account.framed, fed.framed),
-    );
-    reasons(rt, out, at, account, given);
-    sum(rt, out, at, account, given);
+// The list: the run that is not written yet, how many bytes have each reason, and whether all rows could be written.
+#[derive(Drop)]
+pub struct List {
+    out: Output<Log>,
+    run: Option<Run>,
+    counts: Counts,
+    written: Result<(), Unwritten>,
 }
 
-fn reasons(
-    rt: &HostRuntime,
-    out: &mut [u8; 65536],
-    at: &mut usize,
-    account: Account,
-    given: Given,
-) {
-    line(rt, out, at, b"  given up        ", account.skipped);
-    line(rt, out, at, b"    not D3        ", given.not_d3);
-    line(rt, out, at, b"    bad check     ", given.bad_check);
-    line(rt, out, at, b"    unfinished    ", given.unfinished);
-}
-
-fn line(rt: &HostRuntime, out: &mut [u8; 65536], at: &mut usize, name: &[u8], n: u64) {
-    phrase(rt, out, at, name, n, 12, b"\n");
-}
-
-// The sum of the bytes in frames and on the list, which comes out at the bytes read.
-fn sum(rt: &HostRuntime, out: &mut [u8; 65536], at: &mut usize, account: Account, given: Given) {
-    let listed = num::wrapping_add_u64(
-        num::wrapping_add_u64(given.not_d3, given.bad_check),
-        given.unfinished,
-    );
-    let sum = num::wrapping_add_u64(account.framed, listed);
-    if sum == account.bytes {
-        phrase(
-            rt,
+impl List {
+    // Before the first row stand the name, and the heads of the columns.
+    pub fn new(log: Log, name: &[u8]) -> List {
+        let mut out = Output::new(log);
+        out.bytes(name);
+        out.text("\n       place       bytes  given up as\n");
+        List {
             out,
-            at,
-            b"  sum             ",
-            sum,
-            12,
-            b"  every byte is accounted for\n",
-        );
-        return;
+            run: None,
+            counts: Counts::none(),
+            written: Ok(()),
+        }
     }
-    phrase(
-        rt,
-        out,
-        at,
-        b"  sum             ",
-        sum,
-        12,
-        b"  IS NOT THE BYTES READ\n",
-    );
+
+    // One more byte: it lengthens the run, or the run is written and another begins.
+    pub fn add(&mut self, place: u64, why: Why) {
+        self.counts = self.counts.count(why);
+        let run = match self.run {
+            Some(run) if run.is_lengthened_by(place, why) => Run {
+                bytes: run.bytes.wrapping_add(1),
+                ..run
+            },
+            _ => {
+                self.end_run();
+                Run {
+                    place,
+                    bytes: 1,
+                    why,
+                }
+            }
+        };
+        self.run = Some(run);
+    }
+
+    // Writes the run, if there is one. Where the list cannot be written, the salvage goes on all the same.
+    fn end_run(&mut self) {
+        let Some(run) = self.run else {
+            return;
+        };
+        self.run = None;
+        self.out.unsigned(run.place, 12);
+        self.out.unsigned(run.bytes, 12);
+        self.out.text(run.why.name());
+        if 60_000 < self.out.waiting() {
+            let flushed = self.out.flush();
+            self.written = self.written.and(flushed);
+        }
+    }
+
+    // Writes the last run and the closing counts, where `fed` is the account before closing and `account` the one behind it.
+    // Answers whether all of the list could be written.
+    pub fn end(&mut self, fed: Account, account: Account) -> Result<(), Unwritten> {
+        self.end_run();
+        self.frames(fed, account);
+        self.reasons(account);
+        self.out.flush()?;
+        self.written
+    }
+
+    fn frames(&mut self, fed: Account, account: Account) {
+        self.line("  bytes           ", account.bytes);
+        self.line("  frames fed      ", fed.frames);
+        self.line("    bytes         ", fed.framed);
+        let salvaged = account.frames.wrapping_sub(fed.frames);
+        self.line("  frames salvaged ", salvaged);
+        let bytes = account.framed.wrapping_sub(fed.framed);
+        self.line("    bytes         ", bytes);
+    }
+
+    // How many bytes have which reason, and the sum of the bytes in frames and on the list, which comes out at the bytes read.
+    fn reasons(&mut self, account: Account) {
+        let counts = self.counts;
+        self.line("  given up        ", account.skipped);
+        self.line("    not D3        ", counts.not_d3);
+        self.line("    bad check     ", counts.bad_check);
+        self.line("    unfinished    ", counts.unfinished);
+        let sum = account.framed.wrapping_add(counts.sum());
+        let verdict = if sum == account.bytes {
+            "  every byte is accounted for\n"
+        } else {
+            "  IS NOT THE BYTES READ\n"
+        };
+        self.out.phrase("  sum             ", sum, 12, verdict);
+    }
+
+    fn line(&mut self, name: &str, n: u64) {
+        self.out.phrase(name, n, 12, "\n");
+    }
 }

@@ -4,86 +4,85 @@
 
 mod list;
 mod options;
+mod ruled;
 mod salvage;
 
 use list::Log;
-use options::Asked;
-use reading::{Source, arguments};
-use std::fs::File;
+use options::Named;
+use printing::Terminal;
+use reading::arguments::Word;
+use reading::{Failure, Program, arguments};
+use std::env::Env;
+use std::fs::{File, Files};
 use std::io;
 
 fn main(rt: HostRuntime) {
-    let asked = options::all(&rt);
+    let terminal = Terminal::new(rt.stdout(), rt.stderr());
+    let program = Program::new("rtcm_salvage", rt.stdin(), terminal);
+    if run(&rt, &program).is_err() {
+        program.failed();
+    }
+}
+
+// Does what the arguments ask.
+fn run(rt: &(impl Env + Files<File = File>), program: &Program) -> Result<(), Failure> {
+    let asked = options::all(rt);
     if asked.help {
-        options::help(&rt);
-        return;
+        return program.tell(options::HELP);
     }
     if asked.version {
-        arguments::version(&rt, b"rtcm_salvage");
-        return;
+        return program.version();
     }
-    if !is_right(&rt, asked) {
-        arguments::failed(&rt, b"rtcm_salvage");
-        return;
+    if let Some(i) = asked.wrong {
+        return Err(options::wrong(rt, program, i));
     }
-    if !salvage_listed(&rt, asked) {
-        arguments::failed(&rt, b"rtcm_salvage");
+    let named = asked.named.ok_or_else(|| program.no_file())?;
+    if asked.is_more {
+        program.say(": name one recording\n");
+        return Err(Failure::Refused);
     }
+    let log = log(rt, program, asked.list)?;
+    salvage_named(rt, program, named, log, asked.salvaged)
 }
 
-// Whether the arguments can be followed. What is wrong with them is said.
-fn is_right(rt: &HostRuntime, asked: Asked) -> bool {
-    if asked.wrong != 0 {
-        options::say_wrong(rt, asked);
-        return false;
-    }
-    if asked.file == 0 {
-        arguments::no_file(rt, b"rtcm_salvage");
-        return false;
-    }
-    if asked.second != 0 {
-        printing::say(rt, b"rtcm_salvage: name one recording\n");
-        return false;
-    }
-    true
-}
-
-// Opens the list, which is standard error unless a file is named, and salvages.
-fn salvage_listed(rt: &HostRuntime, asked: Asked) -> bool {
-    if asked.list == 0 {
-        return salvage_named(rt, asked, &mut Log::Errors(rt.stderr()));
-    }
-    let mut path = [0u8; 4096];
-    let n = arguments::word(rt, asked.list, &mut path);
-    match created(rt, &path[..n]) {
-        Ok(file) => salvage_named(rt, asked, &mut Log::File(file)),
+// Opens the list, which is standard error unless an argument names a file.
+fn log(
+    rt: &(impl Env + Files<File = File>),
+    program: &Program,
+    list: Option<usize>,
+) -> Result<Log, Failure> {
+    let Some(i) = list else {
+        return Ok(Log::new(program.terminal(), None));
+    };
+    let word = Word::or_empty(rt, i);
+    match created(rt, word.bytes()) {
+        Ok(file) => Ok(Log::new(program.terminal(), Some(file))),
         Err(error) => {
-            printing::fail(rt, &path[..n], &error);
-            false
+            program.terminal().fail(word.bytes(), &error);
+            Err(Failure::Unwritten)
         }
     }
 }
 
 // Creates the file, or empties it if it is there.
-fn created(rt: &HostRuntime, path: &[u8]) -> io::Result<File> {
-    File::create(rt, arguments::text_of(path)?)
+fn created(files: &impl Files<File = File>, path: &[u8]) -> io::Result<File> {
+    File::create(files, arguments::text_of(path)?)
 }
 
 // Salvages the recording that is named.
-fn salvage_named(rt: &HostRuntime, asked: Asked, log: &mut Log) -> bool {
-    let mut path = [0u8; 4096];
-    let n = arguments::word(rt, asked.file, &mut path);
-    if asked.input {
-        return salvage::run(
-            rt,
-            &mut Source::Input(rt.stdin()),
-            b"standard input",
-            log,
-            asked.salvaged,
-        );
-    }
-    match arguments::open(rt, &path[..n]) {
-        Some(mut source) => salvage::run(rt, &mut source, &path[..n], log, asked.salvaged),
-        None => false,
+fn salvage_named(
+    rt: &(impl Env + Files<File = File>),
+    program: &Program,
+    named: Named,
+    log: Log,
+    salvaged: bool,
+) -> Result<(), Failure> {
+    match named {
+        Named::Input => salvage::run(program, program.input(), b"standard input", log, salvaged),
+        Named::File(i) => {
+            let word = Word::or_empty(rt, i);
+            let path = word.bytes();
+            salvage::run(program, program.open(rt, path)?, path, log, salvaged)
+        }
     }
 }

@@ -1,171 +1,137 @@
 // What the arguments ask for, and what is said to the user.
-use reading::arguments;
-use reading::arguments::{Kind, same};
+use reading::arguments::{Kind, Word};
+use reading::{Failure, Program, arguments};
+use std::env::Env;
 
-// What all the arguments ask for: `list` is the place of the list's name, `wrong` that of the first option that is not
-// known or has no name behind it, `file` and `second` those of recordings, or 0. `input`: the recording is standard input.
+// The recording that is named: standard input, or the file that is the word of an argument.
+#[derive(Clone, Copy)]
+pub enum Named {
+    Input,
+    File(usize),
+}
+
+// What all the arguments ask for: `list` is the place of the list's name, `wrong` that of the first option that is not known
+// or has no name behind it, `named` the first recording, and `is_more` whether there are more.
 #[derive(Clone, Copy)]
 pub struct Asked {
     pub help: bool,
     pub version: bool,
     pub salvaged: bool,
-    pub list: usize,
-    pub wrong: usize,
-    pub file: usize,
-    pub second: usize,
-    pub input: bool,
+    pub list: Option<usize>,
+    pub wrong: Option<usize>,
+    pub named: Option<Named>,
+    pub is_more: bool,
+    // Whether `--` was there, and the place of a `--list` whose name is the next word.
+    is_rest: bool,
+    unnamed: Option<usize>,
 }
 
-// What a word is. `List` is the option, and `Name` the word behind it.
-#[derive(Clone, Copy)]
-enum Word {
-    Help,
-    Version,
-    Salvaged,
-    List,
-    Name,
-    Rest,
-    Unknown,
-    Input,
-    File,
-}
-
-pub fn all(rt: &HostRuntime) -> Asked {
-    let mut asked = Asked {
-        help: false,
-        version: false,
-        salvaged: false,
-        list: 0,
-        wrong: 0,
-        file: 0,
-        second: 0,
-        input: false,
-    };
-    let mut rest = false;
-    let mut is_name = false;
-    let mut last: usize = 0;
-    for i in 1..arguments::count(rt) {
-        last = i;
-        let word = word_at(rt, i, rest, is_name);
-        is_name = is_list(word);
-        rest = is_rest(word, rest);
-        asked = with(asked, word, i);
+pub fn all(env: &impl Env) -> Asked {
+    let mut asked = Asked::nothing();
+    for i in 1..arguments::count(env) {
+        asked = asked.with(Word::or_empty(env, i).bytes(), i);
     }
-    if is_name {
-        asked = wrong_at(asked, last);
+    Asked {
+        wrong: asked.wrong.or(asked.unnamed),
+        ..asked
     }
-    asked
 }
 
-// What is asked for with the word at place i.
-fn with(asked: Asked, word: Word, i: usize) -> Asked {
-    let mut now = asked;
-    match word {
-        Word::Help => {
-            now.help = true;
+impl Asked {
+    // What no word at all asks for.
+    fn nothing() -> Asked {
+        Asked {
+            help: false,
+            version: false,
+            salvaged: false,
+            list: None,
+            wrong: None,
+            named: None,
+            is_more: false,
+            is_rest: false,
+            unnamed: None,
         }
-        Word::Version => {
-            now.version = true;
+    }
+
+    // What is asked for with the word of argument i: behind `--list` it is the list's name, whatever it is.
+    fn with(self, word: &[u8], i: usize) -> Asked {
+        if self.unnamed.is_some() {
+            return Asked {
+                list: Some(i),
+                unnamed: None,
+                ..self
+            };
         }
-        Word::Salvaged => {
-            now.salvaged = true;
+        match self.kind_of(word) {
+            Kind::Help => Asked { help: true, ..self },
+            Kind::Version => Asked {
+                version: true,
+                ..self
+            },
+            Kind::Own => self.with_own(word, i),
+            Kind::Rest => Asked {
+                is_rest: true,
+                ..self
+            },
+            Kind::Unknown => Asked {
+                wrong: self.wrong.or(Some(i)),
+                ..self
+            },
+            Kind::Input => self.with_recording(Named::Input),
+            Kind::File => self.with_recording(Named::File(i)),
         }
-        Word::Name => {
-            now.list = i;
+    }
+
+    // What a word is. The program's own options are --salvaged and --list.
+    fn kind_of(self, word: &[u8]) -> Kind {
+        if self.is_rest {
+            return arguments::operand_of(word);
         }
-        Word::Unknown => {
-            now = wrong_at(now, i);
+        match word {
+            b"--list" => Kind::Own,
+            _ => arguments::kind_of(word, b"--salvaged"),
         }
-        Word::Input => {
-            now = named(now, i, true);
+    }
+
+    // One of the program's own options is heeded.
+    fn with_own(self, word: &[u8], i: usize) -> Asked {
+        match word {
+            b"--list" => Asked {
+                unnamed: Some(i),
+                ..self
+            },
+            _ => Asked {
+                salvaged: true,
+                ..self
+            },
         }
-        Word::File => {
-            now = named(now, i, false);
+    }
+
+    // A recording is named.
+    fn with_recording(self, named: Named) -> Asked {
+        if self.named.is_some() {
+            return Asked {
+                is_more: true,
+                ..self
+            };
         }
-        _ => {}
-    }
-    now
-}
-
-// The first wrong word is the one that is said.
-fn wrong_at(asked: Asked, i: usize) -> Asked {
-    let mut now = asked;
-    if asked.wrong == 0 {
-        now.wrong = i;
-    }
-    now
-}
-
-// A recording is named.
-fn named(asked: Asked, i: usize, input: bool) -> Asked {
-    let mut now = asked;
-    if asked.file != 0 {
-        now.second = i;
-        return now;
-    }
-    now.file = i;
-    now.input = input;
-    now
-}
-
-fn is_list(word: Word) -> bool {
-    match word {
-        Word::List => true,
-        _ => false,
+        Asked {
+            named: Some(named),
+            ..self
+        }
     }
 }
 
-fn is_rest(word: Word, before: bool) -> bool {
-    match word {
-        Word::Rest => true,
-        _ => before,
+// Says what is wrong with the word of argument i, which is an option.
+pub fn wrong(env: &impl Env, program: &Program, i: usize) -> Failure {
+    if matches!(Word::or_empty(env, i).bytes(), b"--list") {
+        program.say(": --list needs the name of a file\n");
+        return Failure::Refused;
     }
+    program.unknown(env, i)
 }
 
-// What the word at place i is: behind `--` a recording, behind `--list` the list's name.
-fn word_at(rt: &HostRuntime, i: usize, rest: bool, is_name: bool) -> Word {
-    let mut word = [0u8; 4096];
-    let n = arguments::word(rt, i, &mut word);
-    if is_name {
-        return Word::Name;
-    }
-    if rest {
-        return word_of(arguments::operand_of(&word[..n]));
-    }
-    if same(&word[..n], b"--list") {
-        return Word::List;
-    }
-    word_of(arguments::kind_of(&word[..n], b"--salvaged"))
-}
-
-fn word_of(kind: Kind) -> Word {
-    match kind {
-        Kind::Help => Word::Help,
-        Kind::Version => Word::Version,
-        Kind::Own => Word::Salvaged,
-        Kind::Rest => Word::Rest,
-        Kind::Unknown => Word::Unknown,
-        Kind::Input => Word::Input,
-        Kind::File => Word::File,
-    }
-}
-
-// Says what is wrong with the first wrong word.
-pub fn say_wrong(rt: &HostRuntime, asked: Asked) {
-    let mut word = [0u8; 4096];
-    let n = arguments::word(rt, asked.wrong, &mut word);
-    if same(&word[..n], b"--list") {
-        printing::say(rt, b"rtcm_salvage: --list needs the name of a file\n");
-        return;
-    }
-    arguments::unknown(rt, b"rtcm_salvage", asked.wrong);
-}
-
-pub fn help(rt: &HostRuntime) {
-    arguments::tell(
-        rt,
-        b"rtcm_salvage",
-        b"rtcm_salvage [--salvaged] [--list FILE] [--] FILE
+pub const HELP: &str = "rtcm_salvage [--salvaged] [--list FILE] [--] FILE
 
 Writes the good RTCM 3 frames of a recording (- is standard input), unchanged, to standard
 output: those that a scanner hands out, and those that a false start near the end hides,
@@ -181,6 +147,4 @@ check, or an unfinished candidate. Closing counts follow, with the sum that must
 
 The exit status is always 0. If something failed, the last line on standard error is
 \"rtcm_salvage: failed\".
-",
-    );
-}
+";
