@@ -30,7 +30,10 @@ pub extern "C" fn pv_1059_read(
     if extra.len() != 8 {
         return 9;
     }
-    extra::tell(read1059::read(bytes, start, satellites, signals, biases), extra)
+    extra::tell(
+        read1059::read(bytes, start, satellites, signals, biases),
+        extra,
+    )
 }
 
 // Writes the block of message 1059 from bit `start` on, by an edition of its signals. Extra: the end bit.
@@ -49,7 +52,10 @@ pub extern "C" fn pv_1059_write(
     if extra.len() != 8 {
         return 9;
     }
-    extra::tell(write1059::write(edition, bytes, start, satellites, signals, biases), extra)
+    extra::tell(
+        write1059::write(edition, bytes, start, satellites, signals, biases),
+        extra,
+    )
 }
 
 // Reads the block of message 1230 from bit `start` on into the lists. Extra: how many records, and the end bit.

@@ -12,8 +12,7 @@ ghost use Rattle.peerivolt.specs.Message1001.{seen_values, measured_values, head
 use crate::extra;
 use crate::extra::Values;
 use observations::answer::{Header, Message};
-use observations::measured::Measured;
-use observations::measured::Measured;
+use observations::measured::{Measured, Measured};
 use observations::{measured, read, write};
 
 // Reads message 1001 into the lists. Extra: how many observations, the end bit, station, epoch, synchronous flag, smoothing
@@ -33,7 +32,10 @@ pub extern "C" fn pv_1001_read(
     if extra.len() != 8 {
         return 9;
     }
-    extra::tell(read::read(bytes, satellites, codes, pseudoranges, phases, locks), extra)
+    extra::tell(
+        read::read(bytes, satellites, codes, pseudoranges, phases, locks),
+        extra,
+    )
 }
 
 // Writes message 1001. Extra: the end bit.
@@ -64,7 +66,18 @@ pub extern "C" fn pv_1001_write(
         smoothing,
         interval,
     };
-    extra::tell(write::write( bytes, header, satellites, codes, pseudoranges, phases, locks, ), extra)
+    extra::tell(
+        write::write(
+            bytes,
+            header,
+            satellites,
+            codes,
+            pseudoranges,
+            phases,
+            locks,
+        ),
+        extra,
+    )
 }
 
 // What a raw pseudorange measures. Extra: 0 absent or 2 metres, and the 64 bits of the double.

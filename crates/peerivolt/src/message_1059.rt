@@ -58,7 +58,10 @@ pub extern "C" fn pv_1059_message_write(
         provider,
         solution,
     };
-    extra::tell(write1059::write( edition, bytes, header, satellites, signals, biases, ), extra)
+    extra::tell(
+        write1059::write(edition, bytes, header, satellites, signals, biases),
+        extra,
+    )
 }
 
 // How many records, the end bit, and the header.

@@ -50,7 +50,10 @@ pub extern "C" fn pv_signal_order(
     if extra.len() != 8 {
         return 9;
     }
-    extra::tell(Ok(signals::compare(system, band1, letter1, band2, letter2)), extra)
+    extra::tell(
+        Ok(signals::compare(system, band1, letter1, band2, letter2)),
+        extra,
+    )
 }
 
 // 1, and the band and the letter of a signal; or 0.

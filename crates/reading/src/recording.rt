@@ -132,24 +132,28 @@ impl<'a> Recording<'a> {
             ..
         } = self;
         match scanner::feed(held, a.scanner(), part(piece, a.from, a.to), frame) {
-            Ok(Fed::Frame {
-                length,
-                taken,
-                skipped,
-                place: _,
-                kind,
-                scanner,
-            }) => {
+            Ok(
+                Fed::Frame {
+                    length,
+                    taken,
+                    skipped,
+                    place: _,
+                    kind,
+                    scanner,
+                },
+            ) => {
                 let (found, account) = a.framed(length, taken, skipped, scanner.count, kind);
                 self.length = length;
                 self.account = account;
                 Ok(Some(found))
             }
-            Ok(Fed::More {
-                taken: _,
-                skipped,
-                scanner,
-            }) => {
+            Ok(
+                Fed::More {
+                    taken: _,
+                    skipped,
+                    scanner,
+                },
+            ) => {
                 self.account = a.passed(skipped, scanner.count);
                 Ok(None)
             }
@@ -163,22 +167,26 @@ impl<'a> Recording<'a> {
     {
         let a = self.account;
         match close::close(&mut self.held, a.scanner(), &mut self.frame) {
-            Ok(Closed::Frame {
-                length,
-                skipped,
-                place: _,
-                kind,
-                scanner,
-            }) => {
+            Ok(
+                Closed::Frame {
+                    length,
+                    skipped,
+                    place: _,
+                    kind,
+                    scanner,
+                },
+            ) => {
                 let (found, account) = a.framed(length, 0, skipped, scanner.count, kind);
                 self.length = length;
                 self.account = account;
                 Ok(Some(found))
             }
-            Ok(Closed::Done {
-                skipped,
-                scanner: _,
-            }) => {
+            Ok(
+                Closed::Done {
+                    skipped,
+                    scanner: _,
+                },
+            ) => {
                 self.account = a.emptied(skipped);
                 Ok(None)
             }

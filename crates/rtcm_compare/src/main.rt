@@ -1,10 +1,7 @@
 // Compares a received frame with the sent one: shows the bytes from the first to the last that differs.
 #![tactic(auto)]
 
-mod compared;
-
-use compared::compare;
-use damage::compare::differing;
+use damage::compare::{compare, differing};
 use printing::{Output, Terminal, Unwritten};
 use reading::{Failure, Program, asked, load};
 use std::env::Env;

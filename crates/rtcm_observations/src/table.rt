@@ -1,8 +1,8 @@
 // The table of one message.
-use crate::observed::Message;
-use crate::{observed as measured, observed as read};
 use bits::refusal::Refusal;
-use observations::answer::Observation;
+use observations::answer::{Message, Observation};
+use observations::measured::Measured;
+use observations::{measured, read};
 use printing::{Amount, Output, Terminal};
 use reading::Account;
 
@@ -136,7 +136,7 @@ fn refused(out: &mut Output<Terminal>, refusal: Refusal) {
         }
         Refusal::Kind => out.text(": refused, Kind\n"),
         Refusal::Room(_) => out.text(": refused, Room\n"),
-        // Reading a message gives no other one.
+        // Reading a message gives no other one than Size.
         _ => out.text(": refused, Size\n"),
     }
 }
@@ -149,12 +149,12 @@ fn row(out: &mut Output<Terminal>, seen: Observation) {
     out.phrase(", lock ", u64::from(seen.lock), 3, "\n");
 }
 
-// A pseudorange: its raw number, and the metres, each of which is 50 of it.
+// A pseudorange: its raw number, in 0.02 m, and the metres.
 fn pseudorange(out: &mut Output<Terminal>, raw: u32) {
     out.phrase(", pseudorange ", u64::from(raw), 8, " ");
     match measured::pseudorange(raw) {
-        None => out.text("    absent"),
-        Some(_) => out.hundredths(Amount::from(i64::from(raw) * 2), 10),
+        Measured::Absent => out.text("    absent"),
+        _ => out.hundredths(Amount::from(i64::from(raw) * 2), 10),
     }
 }
 
@@ -163,8 +163,8 @@ fn phase(out: &mut Output<Terminal>, raw: i32) {
     out.text(", phase ");
     out.signed(Amount::from(i64::from(raw)), 7);
     match measured::phase(raw) {
-        None => out.text("    absent"),
-        Some(_) => metres(out, raw),
+        Measured::Absent => out.text("    absent"),
+        _ => metres(out, raw),
     }
 }
 

@@ -4,7 +4,6 @@
 
 mod list;
 mod options;
-mod ruled;
 mod salvage;
 
 use list::Log;

@@ -2,10 +2,9 @@
 ghost use Rattle.reading.specs.Account.{Right};
 
 use crate::list::{List, Log, Why};
-use crate::ruled;
 use closing::reason;
 use printing::Sink;
-use reading::{Before, Failure, Program, Recording, Source};
+use reading::{Before, Failure, Mode, Program, Recording, Source};
 
 // Salvages an open recording. If only the closing frames are `salvaged`, those that feeding finds are not written.
 pub fn run(
@@ -16,7 +15,7 @@ pub fn run(
     salvaged: bool,
 ) -> Result<(), Failure> {
     let mut list = List::new(log, name);
-    let mut recording = Recording::new(source, name, program.terminal(), 0);
+    let mut recording = Recording::new(source, name, program.terminal(), Mode::Rtcm);
     let end = feed(program, &mut recording, &mut list, salvaged);
     if let Err(Failure::Unwritten) = end {
         return end;
@@ -89,7 +88,7 @@ fn list_skipped(list: &mut List, recording: &Recording, before: &Before) {
 // Lists what a closing call gave up: the first bytes of those held before it.
 fn list_given_up(list: &mut List, recording: &Recording, before: &Before) {
     for i in 0..recording.skipped_since(before) {
-        let why = ruled::at(before.held(), i as usize).map_or(Why::NotD3, Why::from);
+        let why = reason::at(before.held(), i as usize).map_or(Why::NotD3, Why::from);
         list.add(before.place().wrapping_add(i), why);
     }
 }

@@ -1,11 +1,8 @@
 // Runs outside vectors through crates `bits` and `frames` and writes what comes out, to be compared with what should.
 #![tactic(auto)]
 
-mod fields;
-
-use bits::crc;
 use bits::refusal::Refusal;
-use fields as field;
+use bits::{crc, field};
 use frames::frame;
 use printing::Terminal;
 use std::fmt::Display;
