@@ -12,7 +12,7 @@ ghost use Rattle.peerivolt.specs.Message1001.{seen_values, measured_values, head
 use crate::extra;
 use crate::extra::Values;
 use observations::answer::{Header, Message};
-use observations::measured::{Measured, Measured};
+use observations::measured::Measured;
 use observations::{measured, read, write};
 
 // Reads message 1001 into the lists. Extra: how many observations, the end bit, station, epoch, synchronous flag, smoothing
