@@ -11,8 +11,8 @@ mod number;
 mod terminal;
 
 pub use number::Amount;
-pub use terminal::{Sink, Terminal, Unwritten};
 use std::marker::Model;
+pub use terminal::{Sink, Terminal, Unwritten};
 
 const ROOM: usize = 65536;
 

@@ -1,5 +1,5 @@
 // Standard output, and standard error, on which is said what failed.
-ghost use Rattle.std.specs.Prelude.{◌≤◌};
+ghost use Rattle.std.specs.Prelude.{◌≡◌, ◌≤◌, IfOk};
 
 use std::fmt::Display;
 use std::io::{Print, Stderr, Stdout, Write};
@@ -12,7 +12,8 @@ pub struct Unwritten;
 // What gathered text is written to.
 pub trait Sink {
     // Writes all of the words. Where that cannot be done, it says so.
-    fn put(&mut self, words: &[u8]) -> Result<(), Unwritten>;
+    fn put(&mut self, words: &[u8]) -> Result<(), Unwritten>
+        ensures { IfOk result (λ u. u ≡ tt) };
 }
 
 #[derive(Clone, Copy)]
@@ -22,26 +23,36 @@ pub struct Terminal {
 }
 
 impl Terminal {
-    pub fn new(output: Stdout, errors: Stderr) -> Terminal {
+    pub fn new(output: Stdout, errors: Stderr) -> Terminal
+        ensures { result ≡ record { output = output; errors = errors } }
+    {
         Terminal { output, errors }
     }
 
-    pub fn errors(&self) -> Stderr {
+    pub fn errors(&self) -> Stderr
+        ensures { result ≡ self.now.errors }
+    {
         self.errors
     }
 
     // Says the words on standard error. Where that cannot be done, there is no place left to tell of it.
-    pub fn say(&self, words: impl Display + Drop) {
+    pub fn say(&self, words: impl Display + Drop)
+        ensures { result ≡ tt }
+    {
         let _ = self.errors.print(words);
     }
 
     // The same of bytes that need not be text.
-    pub fn say_bytes(&self, words: &[u8]) {
+    pub fn say_bytes(&self, words: &[u8])
+        ensures { result ≡ tt }
+    {
         let _ = Print::write_all(&self.errors, words);
     }
 
     // Says in a line what failed, as the caller names it, and the system's text of the error.
-    pub fn fail(&self, what: &[u8], error: &io::Error) {
+    pub fn fail(&self, what: &[u8], error: &io::Error)
+        ensures { result ≡ tt }
+    {
         let mut area = [0u8; 256];
         let n = put(error, &mut area);
         self.say_bytes(what);

@@ -2,9 +2,16 @@
 use Rattle.std.specs.Prelude.{◌≡◌, ℕ, ◌+◌, ◌-◌, ◌%◌, ◌^◌, ◌≤◌, Option, Some, None, Result, Ok, Err}
 use Rattle.reading.specs.declared.account.Account.{Account}
 use Rattle.reading.specs.declared.account.Found.{Found}
+use Rattle.reading.specs.declared.account.Mode.{Mode}
+use Rattle.reading.specs.declared.account.Mode.TheVariants.{Rtcm, RtcmAndUbx}
 use Rattle.reading.specs.declared.program.Failure.{Failure}
 use Rattle.reading.specs.declared.recording.Step.{Step}
 use Rattle.reading.specs.declared.recording.Step.TheVariants.{Frame, Piece, End}
+
+-- the number of a mode, as framings are numbered
+abbrev pub mode_number : Mode → ℕ
+mode_number Rtcm = 0
+mode_number RtcmAndUbx = 1
 
 -- The bytes read are those in frames, the skipped and the held ones, and those of the piece that are not taken yet.
 pub record Right (a : Account) : Type 0 where

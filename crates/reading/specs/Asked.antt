@@ -1,5 +1,5 @@
 -- What the words of a program ask for that has no option of its own. Assumes nothing.
-use Rattle.std.specs.Prelude.{◌≡◌, ℕ, ◌+◌, ◌<◌, true, false, List, [], ◌∷◌, length, ◌≢◌, Option, Some, None}
+use Rattle.std.specs.Prelude.{◌≡◌, ℕ, ◌+◌, ◌<◌, true, false, List, [], ◌∷◌, length, Option, Some, None}
 use Rattle.reading.specs.Arguments.{IsKind, IsOperand, help}
 use Rattle.reading.specs.declared.asked.Asked.{Asked}
 use Rattle.reading.specs.declared.arguments.Kind.{Kind}

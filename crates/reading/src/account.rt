@@ -1,13 +1,32 @@
 // How far a recording is read, and what a step makes of that.
 ghost use Rattle.std.specs.Prelude.{◌≡◌, ◌+◌, ◌-◌, ◌≤◌};
 ghost use Rattle.frames.specs.Answers.{known};
-ghost use Rattle.reading.specs.Account.{Right, AllTaken, RightFrame};
+ghost use Rattle.reading.specs.Account.{Right, AllTaken, RightFrame, mode_number};
 
 use frames::scanner;
 use frames::scanner::Scanner;
 
+// Which frames are looked for.
+#[derive(Clone, Copy, Debug, PartialEq, Eq)]
+pub enum Mode {
+    Rtcm,
+    RtcmAndUbx,
+}
+
+impl Mode {
+    // The number by which a scanner, which C sees, is opened for it.
+    pub fn number(self) -> u32
+        ensures { result ≡ mode_number self }
+    {
+        match self {
+            Mode::Rtcm => 0,
+            Mode::RtcmAndUbx => 1,
+        }
+    }
+}
+
 // Each byte is in a frame, skipped, held, or in the part of the piece from `from` to `to`, which is not taken yet. Sums go
-// round at 2^64. Mode 0 is RTCM only, 1 is RTCM and UBX.
+// round at 2^64.
 #[derive(Clone, Copy)]
 pub struct Account {
     pub bytes: u64,
@@ -17,7 +36,7 @@ pub struct Account {
     pub held: usize,
     pub from: usize,
     pub to: usize,
-    pub mode: u32,
+    pub mode: Mode,
 }
 
 // A frame that was found, with its place in the recording and its kind.
@@ -30,7 +49,7 @@ pub struct Found {
 
 impl Account {
     // The account before anything is read in a mode.
-    pub fn start(mode: u32) -> Account
+    pub fn start(mode: Mode) -> Account
         ensures { AllTaken result }
     {
         Account {
@@ -48,12 +67,12 @@ impl Account {
     // A scanner that holds so many bytes. The account counts places itself, past 2^48 too, so that the scanner counts from
     // the first byte held.
     pub(crate) fn scanner(self) -> Scanner
-        ensures { known result ≡ record { count = self.held; taken = self.held; mode = self.mode } }
+        ensures { known result ≡ record { count = self.held; taken = self.held; mode = mode_number self.mode } }
     {
         Scanner {
             count: self.held,
             taken: self.held as u64,
-            mode: self.mode,
+            mode: self.mode.number(),
         }
     }
 

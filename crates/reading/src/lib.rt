@@ -11,7 +11,7 @@ mod recording;
 pub mod skips;
 mod source;
 
-pub use account::{Account, Found};
+pub use account::{Account, Found, Mode};
 pub use number::{frame_of, number_of};
 pub use program::{Failure, Program};
 pub use recording::{Before, Recording, Step};

@@ -1,5 +1,5 @@
 // A program that goes through recordings, and what it says of itself and of what failed.
-ghost use Rattle.std.specs.Prelude.{IfOk};
+ghost use Rattle.std.specs.Prelude.{◌≡◌, ◌≤◌, length, IfOk, IfErr};
 ghost use Rattle.reading.specs.Arguments.{IsFile};
 
 use crate::arguments::Word;
@@ -27,6 +27,10 @@ pub enum Failure {
 }
 
 impl From<Unwritten> for Failure {
+    ghost use Rattle.reading.specs.declared.program.Failure.TheVariants as F;
+
+    ghost from_gives = { λ _ f. f ≡ F.Unwritten };
+
     fn from(_unwritten: Unwritten) -> Failure {
         Failure::Unwritten
     }
@@ -41,7 +45,9 @@ pub struct Program {
 }
 
 impl Program {
-    pub fn new(name: &'static str, input: Stdin, terminal: Terminal) -> Program {
+    pub fn new(name: &'static str, input: Stdin, terminal: Terminal) -> Program
+        ensures { (result.name.now ≡ name.now) × (result.input ≡ input) × (result.terminal ≡ terminal) }
+    {
         Program {
             name,
             input,
@@ -49,21 +55,30 @@ impl Program {
         }
     }
 
-    pub fn terminal(&self) -> Terminal {
+    pub fn terminal(&self) -> Terminal
+        ensures { result ≡ self.now.terminal }
+    {
         self.terminal
     }
 
-    pub fn input(&self) -> Source {
+    pub fn input(&self) -> Source
+        ensures { result ≡ Source.Input self.now.input }
+    {
         Source::Input(self.input)
     }
 
     // Text on its way to standard output.
-    pub fn output(&self) -> Output<Terminal> {
+    pub fn output(&self) -> Output<Terminal>
+        ensures { result.waiting ≡ 0 }
+    {
         Output::new(self.terminal)
     }
 
     // The word of argument i. Where there is none that fits, that is said.
-    pub fn word(&self, env: &impl Env, i: usize) -> Result<Word, Failure> {
+    pub fn word(&self, env: &impl Env, i: usize) -> Result<Word, Failure>
+        ensures fits { IfOk result (λ w. length w ≤ 4096) }
+        ensures said { IfErr result (λ e. e ≡ Failure.Unread) }
+    {
         match Word::of(env, i) {
             Ok(word) => Ok(word),
             Err(error) => {
@@ -75,7 +90,8 @@ impl Program {
 
     // Opens a file. Where it cannot be opened, that is said.
     pub fn open(&self, files: &impl Files<File = File>, path: &[u8]) -> Result<Source, Failure>
-        ensures { IfOk result IsFile }
+        ensures opened { IfOk result IsFile }
+        ensures said { IfErr result (λ e. e ≡ Failure.Unread) }
     {
         match open_text(files, path) {
             Ok(file) => Ok(Source::File(file)),
@@ -87,7 +103,9 @@ impl Program {
     }
 
     // Says that argument i is no option of the program.
-    pub fn unknown(&self, env: &impl Env, i: usize) -> Failure {
+    pub fn unknown(&self, env: &impl Env, i: usize) -> Failure
+        ensures { result ≡ Failure.Refused }
+    {
         let name = self.name;
         let word = Word::or_empty(env, i);
         self.say(": no such option: ");
@@ -99,36 +117,48 @@ impl Program {
     }
 
     // Says that the arguments name no recording.
-    pub fn no_file(&self) -> Failure {
+    pub fn no_file(&self) -> Failure
+        ensures { result ≡ Failure.Refused }
+    {
         self.misnamed("a file, or - for standard input")
     }
 
     // Says that the words behind the options are not those that the program takes.
-    pub fn misnamed(&self, wanted: &str) -> Failure {
+    pub fn misnamed(&self, wanted: &str) -> Failure
+        ensures { result ≡ Failure.Refused }
+    {
         let name = self.name;
         self.terminal.say(format_args!("{name}: name {wanted}; {name} --help says more\n"));
         Failure::Refused
     }
 
     // Says the name and the words behind it.
-    pub fn say(&self, words: &str) {
+    pub fn say(&self, words: &str)
+        ensures { result ≡ tt }
+    {
         self.terminal.say(self.name);
         self.terminal.say(words);
     }
 
     // Says that the program failed, on the last line. Its exit status is 0 whatever happens.
-    pub fn failed(&self) {
+    pub fn failed(&self)
+        ensures { result ≡ tt }
+    {
         self.say(": failed\n");
     }
 
     // Writes the program's name and its version, that of the library.
-    pub fn version(&self) -> Result<(), Failure> {
+    pub fn version(&self) -> Result<(), Failure>
+        ensures { IfErr result (λ e. e ≡ Failure.Unwritten) }
+    {
         self.tell(self.name)?;
         self.tell(" 0.2.0\n")
     }
 
     // Writes what the program tells of itself. Where it cannot be written, that is said.
-    pub fn tell(&self, words: &str) -> Result<(), Failure> {
+    pub fn tell(&self, words: &str) -> Result<(), Failure>
+        ensures { IfErr result (λ e. e ≡ Failure.Unwritten) }
+    {
         let mut terminal = self.terminal;
         terminal.put(words.as_bytes())?;
         Ok(())

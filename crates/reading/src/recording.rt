@@ -2,7 +2,7 @@
 ghost use Rattle.std.specs.Prelude.{◌≡◌, ◌≤◌, ◌-◌, length};
 ghost use Rattle.reading.specs.Account.{Right};
 
-use crate::{Account, Failure, Found, Source, skips};
+use crate::{Account, Failure, Found, Mode, Source, skips};
 use frames::close::Closed;
 use frames::scanner::Fed;
 use frames::{close, scanner};
@@ -42,13 +42,13 @@ pub struct Before {
 }
 
 impl<'a> Recording<'a> {
-    ghost use Rattle.std.specs.Prelude.{◌≡◌};
+    ghost use Rattle.std.specs.Prelude.{◌≡◌, ◌+◌, ◌%◌, ◌^◌};
     ghost use Rattle.reading.specs.Account.{AllTaken, RightTaken, RightClosed, RightRead, RightStep};
     ghost use Rattle.reading.specs.Number.{frame_in};
     ghost use Rattle.reading.specs.Skips.{byte_in};
 
     // Nothing is read at first.
-    pub fn new(source: Source, name: &'a [u8], terminal: Terminal, mode: u32) -> Recording<'a>
+    pub fn new(source: Source, name: &'a [u8], terminal: Terminal, mode: Mode) -> Recording<'a>
         ensures { AllTaken result.account }
     {
         Recording {
@@ -69,7 +69,9 @@ impl<'a> Recording<'a> {
         self.account
     }
 
-    pub fn name(&self) -> &'a [u8] {
+    pub fn name(&self) -> &'a [u8]
+        ensures { result.now ≡ self.now.name.now }
+    {
         self.name
     }
 
@@ -91,7 +93,9 @@ impl<'a> Recording<'a> {
     }
 
     // How many bytes were skipped since.
-    pub fn skipped_since(&self, before: &Before) -> u64 {
+    pub fn skipped_since(&self, before: &Before) -> u64
+        ensures { (before.now.account.skipped + result) % 2 ^ 64 ≡ self.now.account.skipped }
+    {
         self.account.skipped.wrapping_sub(before.account.skipped)
     }
 
@@ -201,7 +205,9 @@ impl<'a> Recording<'a> {
     }
 
     // Says so if nothing was there to read.
-    pub fn say_if_empty(&self) {
+    pub fn say_if_empty(&self)
+        ensures { result ≡ tt }
+    {
         if self.account.bytes == 0 {
             self.terminal.say_bytes(self.name);
             self.terminal.say(": is empty\n");

@@ -1,13 +1,13 @@
 // What the arguments ask for, and what is said to the user.
 use reading::arguments::{Kind, Word};
-use reading::{arguments, asked};
+use reading::{Mode, arguments, asked};
 use std::env::Env;
 
-// How a recording is shown, and the mode of its scanner.
+// How a recording is shown, and which frames are looked for.
 #[derive(Clone, Copy)]
 pub struct Ways {
     pub quiet: bool,
-    pub mode: u32,
+    pub mode: Mode,
 }
 
 // What all the arguments ask for: `unknown` is the place of the first option that is not known, `rest` that of `--`, and
@@ -28,7 +28,7 @@ pub fn all(env: &impl Env) -> Asked {
         version: false,
         ways: Ways {
             quiet: false,
-            mode: 0,
+            mode: Mode::Rtcm,
         },
         unknown: None,
         rest: None,
@@ -73,7 +73,10 @@ fn with(asked: Asked, word: &[u8], i: usize) -> Asked {
 // The ways, once one of the program's own options is heeded.
 fn ways_with(ways: Ways, word: &[u8]) -> Ways {
     match word {
-        b"--ubx" => Ways { mode: 1, ..ways },
+        b"--ubx" => Ways {
+            mode: Mode::RtcmAndUbx,
+            ..ways
+        },
         _ => Ways {
             quiet: true,
             ..ways

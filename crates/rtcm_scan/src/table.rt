@@ -3,7 +3,7 @@ use crate::options::Ways;
 use frames::scanner::Kind;
 use printing::{Output, Terminal};
 use reading::skips::Skips;
-use reading::{Account, Found};
+use reading::{Account, Found, Mode};
 
 // How many frames have which message number, and how many have none. Sums go round at 2^64.
 #[derive(Drop)]
@@ -102,7 +102,7 @@ pub fn closing(out: &mut Output<Terminal>, account: Account, skips: Skips, numbe
 
 // How many bytes were skipped for which reason. To a scanner for RTCM alone a B5 is a byte that is not D3.
 fn reasons(out: &mut Output<Terminal>, account: Account, skips: Skips) {
-    if account.mode == 0 {
+    if account.mode == Mode::Rtcm {
         line(
             out,
             "    not D3        ",

@@ -103,7 +103,12 @@ fn show(program: &Program, fate: Fate) -> Result<(), Failure> {
             computed,
         } => bad_check(&mut out, place as u64, u64::from(sent), u64::from(computed)),
         Fate::Held { place, length } => {
-            out.phrase("held from the unfinished candidate at ", place as u64, 0, " on, ");
+            out.phrase(
+                "held from the unfinished candidate at ",
+                place as u64,
+                0,
+                " on, ",
+            );
             out.phrase("", length as u64, 0, " bytes to the end\n");
         }
         Fate::Size => return Err(refused(program)),
@@ -121,8 +126,6 @@ fn bad_check(out: &mut Output<Terminal>, place: u64, sent: u64, computed: u64) {
 }
 
 fn refused(program: &Program) -> Failure {
-    program
-        .terminal()
-        .say("refused with Size: the place is at or past the end of the recording\n");
+    program.terminal().say("refused with Size: the place is at or past the end of the recording\n");
     Failure::Refused
 }
