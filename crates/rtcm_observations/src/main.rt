@@ -7,7 +7,7 @@ mod table;
 use frames::frame;
 use printing::{Output, Terminal};
 use reading::arguments::Kind;
-use reading::{Failure, Program, Recording, Source, Step, arguments, asked};
+use reading::{Failure, Mode, Program, Recording, Source, Step, arguments, asked};
 use std::env::Env;
 use std::fs::{File, Files};
 use table::Tally;
@@ -94,7 +94,7 @@ fn show_open(
     name: &[u8],
     out: &mut Output<Terminal>,
 ) -> Result<(), Failure> {
-    let mut recording = Recording::new(source, name, program.terminal(), 0);
+    let mut recording = Recording::new(source, name, program.terminal(), Mode::Rtcm);
     let mut tally = Tally::none();
     let end = show(&mut recording, &mut tally, out);
     if let Err(Failure::Unwritten) = end {

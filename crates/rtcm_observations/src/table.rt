@@ -136,7 +136,7 @@ fn refused(out: &mut Output<Terminal>, refusal: Refusal) {
         }
         Refusal::Kind => out.text(": refused, Kind\n"),
         Refusal::Room(_) => out.text(": refused, Room\n"),
-        // Reading a message gives no other one.
+        // Reading a message gives no other one than Size.
         _ => out.text(": refused, Size\n"),
     }
 }
@@ -149,7 +149,7 @@ fn row(out: &mut Output<Terminal>, seen: Observation) {
     out.phrase(", lock ", u64::from(seen.lock), 3, "\n");
 }
 
-// A pseudorange: its raw number, and the metres, each of which is 50 of it.
+// A pseudorange: its raw number, in 0.02 m, and the metres.
 fn pseudorange(out: &mut Output<Terminal>, raw: u32) {
     out.phrase(", pseudorange ", u64::from(raw), 8, " ");
     match measured::pseudorange(raw) {

@@ -5,7 +5,7 @@ use crate::list::{List, Log, Why};
 use crate::ruled;
 use closing::reason;
 use printing::Sink;
-use reading::{Before, Failure, Program, Recording, Source};
+use reading::{Before, Failure, Mode, Program, Recording, Source};
 
 // Salvages an open recording. If only the closing frames are `salvaged`, those that feeding finds are not written.
 pub fn run(
@@ -16,7 +16,7 @@ pub fn run(
     salvaged: bool,
 ) -> Result<(), Failure> {
     let mut list = List::new(log, name);
-    let mut recording = Recording::new(source, name, program.terminal(), 0);
+    let mut recording = Recording::new(source, name, program.terminal(), Mode::Rtcm);
     let end = feed(program, &mut recording, &mut list, salvaged);
     if let Err(Failure::Unwritten) = end {
         return end;
