@@ -168,7 +168,8 @@ fn phase(out: &mut Output<Terminal>, raw: i32) {
     }
 }
 
-// So many times 0.0005 m, in metres with four digits behind the point.
+// So many times 0.0005 m, in metres with four digits behind the point: one by one, since an Output puts no zeros before a
+// number.
 fn metres(out: &mut Output<Terminal>, raw: i32) {
     let n = u64::from(raw.unsigned_abs()) * 5;
     let whole = Amount {

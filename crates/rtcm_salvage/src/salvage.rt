@@ -77,7 +77,7 @@ fn write(program: &Program, frame: &[u8]) -> Result<(), Failure> {
     Ok(())
 }
 
-// Lists what a feeding call skipped.
+// Lists what a feeding call skipped. The bytes lie in two areas, so that each is asked for by its place.
 fn list_skipped(list: &mut List, recording: &Recording, before: &Before) {
     for i in 0..recording.skipped_since(before) {
         let skip = reason::skipped(recording.byte_since(before, i as usize));
