@@ -51,6 +51,7 @@ pub extern "C" fn pv_feed_all(
 impl Values for Listed {
     ghost listed = { λ l. all_values (known_listed l) };
 
+    #[inline(always)]
     fn values(self) -> [u64; 8] {
         [
             self.count as u64,

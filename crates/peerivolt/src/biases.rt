@@ -112,6 +112,7 @@ pub extern "C" fn pv_1230_metres(raw: i16) -> f32
 impl Values for Records {
     ghost listed = { λ r. r.count ∷ r.end ∷ [] };
 
+    #[inline(always)]
     fn values(self) -> [u64; 8] {
         [self.count as u64, self.end as u64, 0, 0, 0, 0, 0, 0]
     }

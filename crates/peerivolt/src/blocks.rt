@@ -59,6 +59,7 @@ pub extern "C" fn pv_settings_write(
 impl Values for Settings {
     ghost listed = { λ s. s.count ∷ s.edition ∷ [] };
 
+    #[inline(always)]
     fn values(self) -> [u64; 8] {
         [self.count as u64, self.edition as u64, 0, 0, 0, 0, 0, 0]
     }

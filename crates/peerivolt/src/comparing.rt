@@ -25,6 +25,7 @@ pub extern "C" fn pv_differing(sent: &[u8], received: &[u8], extra: &mut [u64]) 
 impl Values for Run {
     ghost listed = { λ r. r.start ∷ r.count ∷ [] };
 
+    #[inline(always)]
     fn values(self) -> [u64; 8] {
         [self.start as u64, self.count as u64, 0, 0, 0, 0, 0, 0]
     }

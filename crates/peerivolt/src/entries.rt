@@ -86,6 +86,7 @@ pub extern "C" fn pv_cache_lookup(
 impl Values for () {
     ghost listed = { λ _. [] };
 
+    #[inline(always)]
     fn values(self) -> [u64; 8] {
         [0; 8]
     }
@@ -95,11 +96,13 @@ impl Values for () {
 impl Values for Value {
     ghost listed = { λ v. v.iod ∷ in_long v.bias ∷ [] };
 
+    #[inline(always)]
     fn values(self) -> [u64; 8] {
         [self.iod as u64, in_long(self.bias), 0, 0, 0, 0, 0, 0]
     }
 }
 
+#[tactic(auto, unfolding(crate::specs::Cache::in_long))]
 fn in_long(bias: u32) -> u64
     ensures { result ≡ in_long bias }
 {

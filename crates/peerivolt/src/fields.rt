@@ -121,6 +121,7 @@ pub extern "C" fn pv_field_write_signmag(
 impl Values for (u64, usize) {
     ghost listed = { λ r. r.0 ∷ [] };
 
+    #[inline(always)]
     fn values(self) -> [u64; 8] {
         [self.0, 0, 0, 0, 0, 0, 0, 0]
     }
@@ -130,6 +131,7 @@ impl Values for (u64, usize) {
 impl Values for (i64, usize) {
     ghost listed = { λ r. twos_bits 64 r.0 ∷ [] };
 
+    #[inline(always)]
     fn values(self) -> [u64; 8] {
         [self.0.cast_unsigned(), 0, 0, 0, 0, 0, 0, 0]
     }
@@ -139,6 +141,7 @@ impl Values for (i64, usize) {
 impl Values for usize {
     ghost listed = { λ q. q ∷ [] };
 
+    #[inline(always)]
     fn values(self) -> [u64; 8] {
         [self as u64, 0, 0, 0, 0, 0, 0, 0]
     }

@@ -88,7 +88,7 @@ pub extern "C" fn pv_1001_pseudorange(raw: u32, extra: &mut [u64]) -> u32
     if extra.len() != 8 {
         return 9;
     }
-    extra.copy_from_slice(&numbers_of(measured::pseudorange(raw)));
+    extra::fill(numbers_of(measured::pseudorange(raw)), extra);
     0
 }
 
@@ -100,7 +100,7 @@ pub extern "C" fn pv_1001_phase(raw: i32, extra: &mut [u64]) -> u32
     if extra.len() != 8 {
         return 9;
     }
-    extra.copy_from_slice(&numbers_of(measured::phase(raw)));
+    extra::fill(numbers_of(measured::phase(raw)), extra);
     0
 }
 
@@ -112,7 +112,7 @@ pub extern "C" fn pv_1001_lock(raw: u32, extra: &mut [u64]) -> u32
     if extra.len() != 8 {
         return 9;
     }
-    extra.copy_from_slice(&numbers_of(measured::lock(raw)));
+    extra::fill(numbers_of(measured::lock(raw)), extra);
     0
 }
 
@@ -120,6 +120,7 @@ pub extern "C" fn pv_1001_lock(raw: u32, extra: &mut [u64]) -> u32
 impl Values for Message {
     ghost listed = { λ m. seen_values (seen m.header m.count m.end) };
 
+    #[inline(always)]
     fn values(self) -> [u64; 8] {
         let header = self.header;
         [

@@ -68,6 +68,7 @@ pub extern "C" fn pv_1059_message_write(
 impl Values for Message1059 {
     ghost listed = { λ m. message1059_values (whole m.header m.count m.end) };
 
+    #[inline(always)]
     fn values(self) -> [u64; 8] {
         let header = self.header;
         [

@@ -55,6 +55,7 @@ pub extern "C" fn pv_1230_message_write(
 impl Values for Message1230 {
     ghost listed = { λ m. message1230_values (whole m.header m.count m.end) };
 
+    #[inline(always)]
     fn values(self) -> [u64; 8] {
         let header = self.header;
         [

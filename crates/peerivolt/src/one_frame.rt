@@ -38,6 +38,7 @@ pub extern "C" fn pv_frame_write(bytes: &[u8], out: &mut [u8], extra: &mut [u64]
 impl Values for Frame {
     ghost listed = { λ f. f.length ∷ f.«data» ∷ message_number (told_number f.number) (f.sum ∷ []) };
 
+    #[inline(always)]
     fn values(self) -> [u64; 8] {
         let size = self.length as u64;
         let carried = self.data as u64;

@@ -41,6 +41,7 @@ pub extern "C" fn pv_close(
 impl Values for Closed {
     ghost listed = { λ c. closed_values (known_closed c) };
 
+    #[inline(always)]
     fn values(self) -> [u64; 8] {
         match self {
             Closed::Done { skipped, scanner } => scanner::no_frame(0, skipped, scanner),

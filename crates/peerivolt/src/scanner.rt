@@ -40,6 +40,7 @@ pub extern "C" fn pv_feed(
 impl Values for Fed {
     ghost listed = { λ f. fed_values (known_fed f) };
 
+    #[inline(always)]
     fn values(self) -> [u64; 8] {
         match self {
             Fed::More {

@@ -60,6 +60,7 @@ pub extern "C" fn pv_signal_order(
 impl Values for Option<Signal> {
     ghost listed = { λ s. signal_values (found_signal s) };
 
+    #[inline(always)]
     fn values(self) -> [u64; 8] {
         match self {
             Some(Signal { band, letter }) => [1, band as u64, letter as u64, 0, 0, 0, 0, 0],
@@ -72,6 +73,7 @@ impl Values for Option<Signal> {
 impl Values for Option<u8> {
     ghost listed = { λ n. number_values (found_number n) };
 
+    #[inline(always)]
     fn values(self) -> [u64; 8] {
         match self {
             Some(number) => [1, number as u64, 0, 0, 0, 0, 0, 0],
@@ -84,6 +86,7 @@ impl Values for Option<u8> {
 impl Values for Ordering {
     ghost listed = { λ o. order_values (told_order o) };
 
+    #[inline(always)]
     fn values(self) -> [u64; 8] {
         let order = match self {
             Ordering::Less => u64::MAX,

@@ -26,6 +26,7 @@ pub extern "C" fn pv_why(recording: &[u8], place: usize, extra: &mut [u64]) -> u
 impl Values for Fate {
     ghost listed = { λ f. fate_values (known_fate f) };
 
+    #[inline(always)]
     fn values(self) -> [u64; 8] {
         match self {
             Fate::InFrame { place, length } => [0, place as u64, length as u64, 0, 0, 0, 0, 0],

@@ -131,33 +131,32 @@ impl<'a> Recording<'a> {
             frame,
             ..
         } = self;
-        match scanner::feed(held, a.scanner(), part(piece, a.from, a.to), frame) {
-            Ok(
-                Fed::Frame {
-                    length,
-                    taken,
-                    skipped,
-                    place: _,
-                    kind,
-                    scanner,
-                },
-            ) => {
+        let rest = part(piece, a.from, a.to);
+        let Ok(fed) = scanner::feed(held, a.scanner(), rest, frame) else {
+            return Err(Failure::Unread);
+        };
+        match fed {
+            Fed::Frame {
+                length,
+                taken,
+                skipped,
+                place: _,
+                kind,
+                scanner,
+            } => {
                 let (found, account) = a.framed(length, taken, skipped, scanner.count, kind);
                 self.length = length;
                 self.account = account;
                 Ok(Some(found))
             }
-            Ok(
-                Fed::More {
-                    taken: _,
-                    skipped,
-                    scanner,
-                },
-            ) => {
+            Fed::More {
+                taken: _,
+                skipped,
+                scanner,
+            } => {
                 self.account = a.passed(skipped, scanner.count);
                 Ok(None)
             }
-            Err(_) => Err(Failure::Unread),
         }
     }
 
@@ -166,31 +165,29 @@ impl<'a> Recording<'a> {
         ensures { RightClosed result self.new.account }
     {
         let a = self.account;
-        match close::close(&mut self.held, a.scanner(), &mut self.frame) {
-            Ok(
-                Closed::Frame {
-                    length,
-                    skipped,
-                    place: _,
-                    kind,
-                    scanner,
-                },
-            ) => {
+        let Ok(closed) = close::close(&mut self.held, a.scanner(), &mut self.frame) else {
+            return Err(Failure::Unread);
+        };
+        match closed {
+            Closed::Frame {
+                length,
+                skipped,
+                place: _,
+                kind,
+                scanner,
+            } => {
                 let (found, account) = a.framed(length, 0, skipped, scanner.count, kind);
                 self.length = length;
                 self.account = account;
                 Ok(Some(found))
             }
-            Ok(
-                Closed::Done {
-                    skipped,
-                    scanner: _,
-                },
-            ) => {
+            Closed::Done {
+                skipped,
+                scanner: _,
+            } => {
                 self.account = a.emptied(skipped);
                 Ok(None)
             }
-            Err(_) => Err(Failure::Unread),
         }
     }
 

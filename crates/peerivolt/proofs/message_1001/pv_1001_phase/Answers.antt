@@ -16,4 +16,4 @@ numbers_of-requires c = subst IsNumber (sym c.phase.ensures) (phase_is _)
 
 pub returns : goal.returns
 returns c =
-    found measured_values _ c.if-extra-ne8.false (ap (numbers 0) (c.copy_from_slice.ensures ∙ c.numbers_of.ensures)) (c.phase.ensures ∙ ap phase_of (same_32 c.args.raw c.ranges.raw.sfits))
+    found measured_values _ c.if-extra-ne8.false (ap (numbers 0) (c.fill.ensures ∙ c.numbers_of.ensures)) (c.phase.ensures ∙ ap phase_of (same_32 c.args.raw c.ranges.raw.sfits))

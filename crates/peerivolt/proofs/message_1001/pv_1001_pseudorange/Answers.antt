@@ -15,4 +15,4 @@ numbers_of-requires c = subst IsNumber (sym c.pseudorange.ensures) (pseudorange_
 
 pub returns : goal.returns
 returns c =
-    found measured_values _ c.if-extra-ne8.false (ap (numbers 0) (c.copy_from_slice.ensures ∙ c.numbers_of.ensures)) c.pseudorange.ensures
+    found measured_values _ c.if-extra-ne8.false (ap (numbers 0) (c.fill.ensures ∙ c.numbers_of.ensures)) c.pseudorange.ensures

@@ -5,19 +5,19 @@ use Rattle.reading.proofs.recording.Recording.close.Goals as goal
 
 pub returns-in-Frame : goal.returns-in-Frame
 returns-in-Frame c =
-    let k = closed_frame c.args.self.now.held c.args.self.now.frame c.scanner.ensures c.in-Frame.kind c.in-Frame.ensures in
+    let k = closed_frame c.args.self.now.held c.args.self.now.frame c.scanner.ensures c.in-Frame.kind c.in-Frame.is c.in-Ok.ensures in
     c.framed.ensures c.args.self.now.right (omega arith) (omega (arith, k.0)) k.1
 
-pub invariant_of-self : goal.invariant_of-self
-invariant_of-self c =
-    let k = closed_frame c.args.self.now.held c.args.self.now.frame c.scanner.ensures c.in-Frame.kind c.in-Frame.ensures in
+pub invariant_of-self-in-Frame : goal.invariant_of-self-in-Frame
+invariant_of-self-in-Frame c =
+    let k = closed_frame c.args.self.now.held c.args.self.now.frame c.scanner.ensures c.in-Frame.kind c.in-Frame.is c.in-Ok.ensures in
     let f = c.framed.ensures c.args.self.now.right (omega arith) (omega (arith, k.0)) k.1 in
     record { right = f.1 }
 
 pub returns-in-Done : goal.returns-in-Done
-returns-in-Done c = c.emptied-self.ensures c.args.self.now.right (closed_done c.args.self.now.held c.args.self.now.frame c.scanner.ensures c.in-Done.ensures)
+returns-in-Done c = c.emptied-self.ensures c.args.self.now.right (closed_done c.args.self.now.held c.args.self.now.frame c.scanner.ensures c.in-Done.is c.in-Ok.ensures)
 
 pub invariant_of-self-in-Done : goal.invariant_of-self-in-Done
 invariant_of-self-in-Done c =
-    let f = c.emptied-self.ensures c.args.self.now.right (closed_done c.args.self.now.held c.args.self.now.frame c.scanner.ensures c.in-Done.ensures) in
+    let f = c.emptied-self.ensures c.args.self.now.right (closed_done c.args.self.now.held c.args.self.now.frame c.scanner.ensures c.in-Done.is c.in-Ok.ensures) in
     record { right = f.0 }

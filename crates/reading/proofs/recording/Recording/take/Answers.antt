@@ -6,22 +6,22 @@ use Rattle.reading.proofs.recording.Recording.take.Goals as goal
 
 pub returns-in-Frame : goal.returns-in-Frame
 returns-in-Frame c =
-    let k = fed_frame c.args.self.now.held c.args.self.now.frame c.scanner.ensures c.part.result.now c.in-Frame.kind c.in-Frame.ensures in
-    c.framed.ensures c.args.self.now.right (omega (arith, k.0, c.part.ensures)) k.1 k.2
+    let k = fed_frame c.args.self.now.held c.args.self.now.frame c.scanner.ensures c.part-rest.result.now c.in-Frame.kind c.in-Frame.is c.in-Ok.ensures in
+    c.framed.ensures c.args.self.now.right (omega (arith, k.0, c.part-rest.ensures)) k.1 k.2
 
-pub invariant_of-self : goal.invariant_of-self
-invariant_of-self c =
-    let k = fed_frame c.args.self.now.held c.args.self.now.frame c.scanner.ensures c.part.result.now c.in-Frame.kind c.in-Frame.ensures in
-    let f = c.framed.ensures c.args.self.now.right (omega (arith, k.0, c.part.ensures)) k.1 k.2 in
+pub invariant_of-self-in-Frame : goal.invariant_of-self-in-Frame
+invariant_of-self-in-Frame c =
+    let k = fed_frame c.args.self.now.held c.args.self.now.frame c.scanner.ensures c.part-rest.result.now c.in-Frame.kind c.in-Frame.is c.in-Ok.ensures in
+    let f = c.framed.ensures c.args.self.now.right (omega (arith, k.0, c.part-rest.ensures)) k.1 k.2 in
     record { right = f.1 }
 
 pub returns-in-More : goal.returns-in-More
 returns-in-More c =
-    let k = fed_more c.args.self.now.held c.args.self.now.frame c.scanner.ensures c.part.result.now c.in-More.ensures in
-    c.passed-self.ensures c.args.self.now.right (omega (arith, k.0, c.part.ensures)) k.1
+    let k = fed_more c.args.self.now.held c.args.self.now.frame c.scanner.ensures c.part-rest.result.now c.in-More.is c.in-Ok.ensures in
+    c.passed-self.ensures c.args.self.now.right (omega (arith, k.0, c.part-rest.ensures)) k.1
 
 pub invariant_of-self-in-More : goal.invariant_of-self-in-More
 invariant_of-self-in-More c =
-    let k = fed_more c.args.self.now.held c.args.self.now.frame c.scanner.ensures c.part.result.now c.in-More.ensures in
-    let f = c.passed-self.ensures c.args.self.now.right (omega (arith, k.0, c.part.ensures)) k.1 in
+    let k = fed_more c.args.self.now.held c.args.self.now.frame c.scanner.ensures c.part-rest.result.now c.in-More.is c.in-Ok.ensures in
+    let f = c.passed-self.ensures c.args.self.now.right (omega (arith, k.0, c.part-rest.ensures)) k.1 in
     record { right = taken_right _ f }
