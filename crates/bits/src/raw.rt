@@ -96,6 +96,7 @@ fn put_by_bytes(bytes: &mut [u8], start: usize, width: usize, number: u64)
     ensures { bytes.new ≡ put_field bytes.old start width number }
 {
     let mut k: usize = 0;
+    // A step writes up to the end of a byte: no `for` goes that way.
     while k < width {
         let at = start + k;
         let i = at / 8;

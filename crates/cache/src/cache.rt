@@ -164,7 +164,7 @@ fn as_one(provider: u16, solution: u16, satellite: u16, signal: u16) -> u64
         + u64::from(signal) * 0x1_0000_0000_0000
 }
 
-// 16 bits of two's complement in 32.
+// 16 bits of two's complement in 32. A sum, as its definition is: by way of i16 and i32 it would be three conversions.
 #[tactic(auto, unfolding(crate::specs::Cache::widened))]
 pub fn widened(x: u16) -> u32
     ensures { result ≡ widened x }

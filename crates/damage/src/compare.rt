@@ -48,7 +48,7 @@ fn first(sent: &[u8], received: &[u8]) -> Option<usize>
     sent.iter().zip(received).position(|(s, r)| s != r)
 }
 
-// The last one.
+// The last one. By place: `rposition` of a zip, which was tried, says nothing of the place that it finds.
 fn last(sent: &[u8], received: &[u8]) -> Option<usize>
     requires { length sent.now ≡ length received.now }
     ensures { MatchOption result ((k : ℕ) → k < length received.now → slice_index sent.now k ≡ slice_index received.now k) (λ i. (i < length received.now) × (slice_index sent.now i ≢ slice_index received.now i) × ((k : ℕ) → i < k → k < length received.now → slice_index sent.now k ≡ slice_index received.now k)) }

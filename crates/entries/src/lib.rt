@@ -60,7 +60,8 @@ pub fn lookup(s: &[Entry], e: Entry) -> Result<Value, Refusal>
     }
 }
 
-// Where e is stored: the first place with its key, else the first free one.
+// Where e is stored: the first place with its key, else the first free one. The three searches are those of cache, where an
+// element is the array of numbers that C lends.
 fn place_for(s: &[Entry], e: Entry) -> Option<usize>
     ensures { result ≡ option_or (position (λ x. has_key (key_of e) (numbers_of x)) s.now) (position (λ x. free (numbers_of x)) s.now) }
 {

@@ -109,7 +109,8 @@ pub fn write(data: &[u8], out: &mut [u8]) -> Result<usize, Refusal>
     Ok(n + 6)
 }
 
-// The three bytes from byte i on, highest first.
+// The three bytes from byte i on, highest first. As `put_three` it stands in settings too: a public function may ask nothing
+// of its caller.
 fn three_at(bytes: &[u8], i: usize) -> u32
     requires { i + 3 ≤ length bytes.now }
     ensures { (result ≡ field bytes.now (i * 8) 24) × (result < 2 ^ 24) }

@@ -56,6 +56,7 @@ fn list_plain(
     let mut k: usize = 0;
     let mut framed: usize = 0;
     let mut failed: usize = 0;
+    // From candidate to candidate: no `for` goes that way.
     while k < room {
         let j = scan::next_start(held, piece, i, mode);
         if all <= j {

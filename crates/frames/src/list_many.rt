@@ -49,6 +49,7 @@ fn list_rtcm(
     let near = many::open(held, piece, i, 1536, &mut sums);
     let mut base = near.base;
     let mut stop = near.stop;
+    // From candidate to candidate: no `for` goes that way.
     while k < room {
         let at = scan::next_start(held, piece, i, 0);
         if all <= at {
@@ -97,6 +98,7 @@ fn list_by(
     let mut sums = [0u32; 4097];
     let near = many::open(held, piece, i, 1536, &mut sums);
     let mut at = many::begun(near, i);
+    // From candidate to candidate: no `for` goes that way.
     while k < room {
         let j = scan::next_start(held, piece, i, 1);
         if all <= j {

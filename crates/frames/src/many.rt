@@ -47,6 +47,7 @@ fn find_rtcm(held: &[u8], piece: &[u8], from: usize, first: usize) -> Searched
     let mut stop = near.stop;
     let mut i = from;
     let mut end = first;
+    // From candidate to candidate: no `for` goes that way.
     while i < all {
         let j = scan::next_start(held, piece, i, 0);
         if all <= j {
@@ -102,6 +103,7 @@ pub(crate) fn pass(
     let last = stop.saturating_sub(1028);
     let mut i = from;
     let mut end = first;
+    // From candidate to candidate: no `for` goes that way.
     while i < last {
         if i < h {
             return Passed { place: i, end };
@@ -142,6 +144,7 @@ fn find_by(held: &[u8], piece: &[u8], from: usize, first: usize, runs: &mut [u32
     let mut at = begun(near, from);
     let mut i = from;
     let mut end = first;
+    // From candidate to candidate: no `for` goes that way.
     while i < all {
         let j = scan::next_start(held, piece, i, 1);
         if all <= j {
@@ -172,7 +175,7 @@ fn find_by(held: &[u8], piece: &[u8], from: usize, first: usize, runs: &mut [u32
     Searched::More(i)
 }
 
-// The same over candidates of both kinds.
+// The same over candidates of both kinds, with a window for each.
 pub(crate) fn pass_both(
     held: &[u8],
     piece: &[u8],
@@ -189,6 +192,7 @@ pub(crate) fn pass_both(
     let all = h + piece.len();
     let mut i = from;
     let mut end = first;
+    // From candidate to candidate: no `for` goes that way.
     while i < all {
         if i < h {
             return Passed { place: i, end };

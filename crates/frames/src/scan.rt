@@ -100,6 +100,7 @@ fn first_frame(held: &[u8], piece: &[u8], mode: u32) -> Searched
     let mut i: usize = 0;
     let mut end = h;
     let mut failed: usize = 0;
+    // From candidate to candidate: no `for` goes that way.
     while i < all {
         if 64 + i / 64 < failed {
             return many::find_on(held, piece, mode, i, end);
@@ -136,6 +137,7 @@ pub(crate) fn find_at_end(held: &[u8], mode: u32) -> Searched
 {
     let all = held.len();
     let mut i: usize = 0;
+    // From candidate to candidate: no `for` goes that way.
     while i < all {
         let at = next_in(held, i, mode);
         if all <= at {

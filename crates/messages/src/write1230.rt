@@ -96,7 +96,8 @@ fn is_in(signal: u8, signals: &[u8]) -> bool
     false
 }
 
-// The mask, and the biases in its order.
+// The mask, and the biases in its order. The two lists go one by one, as C lends them: two functions alone ask that they
+// have no fault.
 fn put_block(bytes: &mut [u8], start: usize, signals: &[u8], biases: &[i16])
     requires { RoomFor bytes.old start (fields1230 (records1230 signals.now biases.now)) × Faultless1230 signals.now biases.now }
     ensures { bytes.new ≡ put_all bytes.old start (fields1230 (records1230 signals.now biases.now)) }

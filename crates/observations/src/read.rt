@@ -48,7 +48,7 @@ pub fn read(
     })
 }
 
-// Whether five lengths are one.
+// Whether five lengths are one: of the areas that are read into, and of the lists that are written.
 #[tactic(auto, unfolding(crate::specs::Lists::even_counts))]
 pub(crate) fn even(a: usize, b: usize, c: usize, d: usize, e: usize) -> bool
     ensures { result ≡ even_counts a b c d e }

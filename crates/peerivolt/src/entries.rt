@@ -102,6 +102,7 @@ impl Values for Value {
     }
 }
 
+// 32 bits of two's complement in 64. A sum, as its definition is: by way of i32 and i64 it would be three conversions.
 #[tactic(auto, unfolding(crate::specs::Cache::in_long))]
 fn in_long(bias: u32) -> u64
     ensures { result ≡ in_long bias }

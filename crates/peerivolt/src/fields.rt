@@ -1,4 +1,4 @@
-// Bit fields and the checksum.
+// Bit fields and the checksum. C calls each by its own name, so that they are not one function of a type.
 ghost use Rattle.std.specs.Prelude.{◌≡◌, [], ◌∷◌};
 ghost use Rattle.bits.specs.Crc.{crc};
 ghost use Rattle.bits.specs.Signed.{twos_bits};

@@ -1,7 +1,8 @@
 // Text that is gathered in an area of fixed size and then written.
 //
 // Where more does not fit behind the bytes that wait, they are written first, so that no byte is lost; a program that is to
-// stop where its output cannot be written flushes before that. `specs/` says what each function leaves in the area.
+// stop where its output cannot be written flushes before that. `specs/` says what each function leaves in the area, as no
+// clause does of a `write!`.
 #![tactic(auto)]
 
 ghost use Rattle.std.specs.Prelude.{◌≡◌};

@@ -73,7 +73,7 @@ impl Word {
     }
 }
 
-// How many arguments there are, the program's own name among them.
+// How many arguments there are, the program's own name among them. They are asked for by place: there is no slice of them.
 pub fn count(env: &impl Env) -> usize
     ensures { result < 2 ^ 64 }
 {

@@ -56,6 +56,7 @@ fn read_full(source: &mut Source, area: &mut [u8; 65536]) -> usize
     ensures { result ≤ 65536 }
 {
     let mut done: usize = 0;
+    // A step goes as far as a read does: no `for` goes that way.
     while done < 65536 {
         let more = source.read(&mut area[done..]).unwrap_or(0);
         if more == 0 {

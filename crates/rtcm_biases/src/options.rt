@@ -5,7 +5,7 @@ use reading::{Failure, Program, arguments, asked};
 use std::env::Env;
 use std::str;
 
-// The data bits at which the blocks start, and the edition of the 1059 signals.
+// The data bits at which the blocks start, and the edition of the 1059 signals, as the number that the library takes.
 #[derive(Clone, Copy)]
 pub struct Settings {
     of_1059: usize,

@@ -85,7 +85,8 @@ fn list_skipped(list: &mut List, recording: &Recording, before: &Before) {
     }
 }
 
-// Lists what a closing call gave up: the first bytes of those held before it.
+// Lists what a closing call gave up: the first bytes of those held before it. The reasons come by another call than above: as
+// a closure it would be no line less.
 fn list_given_up(list: &mut List, recording: &Recording, before: &Before) {
     for i in 0..recording.skipped_since(before) {
         let why = reason::at(before.held(), i as usize).map_or(Why::NotD3, Why::from);

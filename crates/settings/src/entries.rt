@@ -50,7 +50,8 @@ impl<'a> Entries<'a> {
         None
     }
 
-    // Whether the bytes behind the entries, up to the checksum, are zeros.
+    // Whether the bytes behind the entries, up to the checksum, are zeros. By place, as the statement tells it: with `all`,
+    // which was tried, the goal stayed open.
     pub(crate) fn is_filled(&self) -> bool
         ensures { result ≡ filled self.now.block.now }
     {

@@ -109,7 +109,7 @@ fn take(entries: &Entries<'_>, numbers: &mut [u16], priorities: &mut [u8])
     }
 }
 
-// The three bytes from byte i on, highest first.
+// The three bytes from byte i on, highest first. The same stands in frames: a public function may ask nothing of its caller.
 fn three_at(bytes: &[u8], i: usize) -> u32
     requires { i + 3 ≤ length bytes.now }
     ensures { (result ≡ field bytes.now (i * 8) 24) × (result < 2 ^ 24) }

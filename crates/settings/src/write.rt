@@ -72,7 +72,8 @@ fn put_bytes(edition: Edition, index: u16, numbers: &[u16], priorities: &[u8], o
     }
 }
 
-// Writes a number of 24 bits over three bytes from byte i on, highest first.
+// Writes a number of 24 bits over three bytes from byte i on, highest first. The same stands in frames: a public function
+// may ask nothing of its caller.
 fn put_three(out: &mut [u8], i: usize, v: u32)
     requires { (i + 3 ≤ length out.old) × (v < 2 ^ 24) }
     ensures { out.new ≡ over i (three_bytes v) out.old }
