@@ -7,8 +7,7 @@ use native.Mathlib.Numerals.{add-one}
 use native.Mathlib.Omega.{arith}
 use lib.ListN.{get_or}
 use lib.Arith.{digits_lt}
-use lib.Bits.{bit_or, or_block, or_shifted}
-use lib.Pow.{pow_pos, pow-add, pow_mono, shr-shr, shl-shr, mod-pow-add, mod-mod-pow, shl_exact, field as pow-field, high as pow-high, low as pow_low}
+use lib.Pow.{pow_mono, shr-shr, shl-shr, mod-pow-add, mod-mod-pow, shl_exact, field as pow-field, high as pow-high, low as pow_low}
 use Rattle.bits.specs.Field.{bit_at, field}
 
 pub bit_lt : (s : List ℕ) (i : ℕ) → bit_at s i < 2
@@ -111,55 +110,17 @@ byte_field s q i e =
 pub field_whole : (s : List ℕ) (i : ℕ) → get_or s i 0 < 256 → field s (i * 8) 8 ≡ get_or s i 0
 field_whole s i h = byte_field s (i * 8) i refl ∙ mod-eq_of_lt h
 
--- ---- bytes put together from the highest on
-
--- a byte that is put below
-or_next : (f b j : ℕ) → b < 2 ^ 8 → bit_or (f * 2 ^ (8 + j)) (b * 2 ^ j) ≡ (f * 2 ^ 8 + b) * 2 ^ j
-or_next f b j h =
-    ap₂ bit_or
-    (ap (λ (n : ℕ). f * n) (pow-add 2 8 j) ∙ sym (mul_assoc f (2 ^ 8) (2 ^ j)) ∙ sym (add-zero (f * 2 ^ 8 * 2 ^ j)))
-    (sym (add-zero (b * 2 ^ j)))
-    ∙ or_block j (f * 2 ^ 8) b 0 0 (pow_pos j) (pow_pos j)
-    ∙ add-zero (bit_or (f * 2 ^ 8) b * 2 ^ j)
-    ∙ ap (λ (n : ℕ). n * 2 ^ j) (or_shifted f 8 b h)
-
--- the first byte, at the top of 64 bits
-first_byte : (s : List ℕ) (i x : ℕ) → x ≡ get_or s i 0 → x < 256 → x * 2 ^ 56 % 2 ^ 64 ≡ field s (i * 8) 8 * 2 ^ 56
-first_byte s i x e h =
-    shl_exact 8 56 64 h (omega arith) ∙ ap (λ (n : ℕ). n * 2 ^ 56) (e ∙ sym (field_whole s i (rw (sym e) h)))
-
--- the byte behind w bits, with j bits below it
-next_byte : (s : List ℕ) (i m w j acc x : ℕ) → w ≡ m * 8 → w + 8 + j ≡ 64 → x ≡ get_or s (i + m) 0 → x < 256
-    → acc ≡ field s (i * 8) w * 2 ^ (8 + j) → bit_or acc (x * 2 ^ j % 2 ^ 64) ≡ field s (i * 8) (w + 8) * 2 ^ j
-next_byte s i m w j acc x ew ej ex h ea =
-    let p : (i + m) * 8 ≡ i * 8 + w = omega arith in
-    ap₂ bit_or ea (shl_exact 8 j 64 h (omega arith))
-    ∙ or_next (field s (i * 8) w) x j h
-    ∙ ap (λ (n : ℕ). (field s (i * 8) w * 2 ^ 8 + n) * 2 ^ j)
-    (ex ∙ sym (field_whole s (i + m) (rw (sym ex) h)) ∙ ap (λ (n : ℕ). field s n 8) p)
-    ∙ ap (λ (n : ℕ). n * 2 ^ j) (sym (field_split s (i * 8) w 8))
-
--- the last byte
-last_byte : (s : List ℕ) (i acc x : ℕ) → x ≡ get_or s (i + 7) 0 → x < 256 → acc ≡ field s (i * 8) 56 * 2 ^ 8 → bit_or acc x ≡ field s (i * 8) 64
-last_byte s i acc x ex h ea =
-    let e : x ≡ x * 2 ^ 0 % 2 ^ 64 = sym (ap (λ (n : ℕ). n % 2 ^ 64) (mul-one x) ∙ mod-eq_of_lt (omega arith)) in
-    ap (bit_or acc) e ∙ next_byte s i 7 56 0 acc x refl refl ex h ea ∙ mul-one (field s (i * 8) 64)
-
--- a number that is byte i of s
-abbrev pub IsByte : List ℕ → ℕ → ℕ → Type 0
-IsByte s i x = (x ≡ get_or s i 0) × (x < 256)
-
--- eight bytes, as 64-bit code puts them together
-pub eight_bytes : (s : List ℕ) (i a b c d e f g h : ℕ)
-    → IsByte s i a → IsByte s (i + 1) b → IsByte s (i + 2) c → IsByte s (i + 3) d → IsByte s (i + 4) e → IsByte s (i + 5) f → IsByte s (i + 6) g → IsByte s (i + 7) h
-    → bit_or (bit_or (bit_or (bit_or (bit_or (bit_or (bit_or (a * 2 ^ 56 % 2 ^ 64) (b * 2 ^ 48 % 2 ^ 64)) (c * 2 ^ 40 % 2 ^ 64)) (d * 2 ^ 32 % 2 ^ 64)) (e * 2 ^ 24 % 2 ^ 64)) (f * 2 ^ 16 % 2 ^ 64)) (g * 2 ^ 8 % 2 ^ 64)) h
-    ≡ field s (i * 8) 64
-eight_bytes s i a b c d e f g h ia ib ic id ie if ig ih =
-    last_byte s i _ h ih.0 ih.1
-    (next_byte s i 6 48 8 _ g refl refl ig.0 ig.1
-    (next_byte s i 5 40 16 _ f refl refl if.0 if.1
-    (next_byte s i 4 32 24 _ e refl refl ie.0 ie.1
-    (next_byte s i 3 24 32 _ d refl refl id.0 id.1
-    (next_byte s i 2 16 40 _ c refl refl ic.0 ic.1
-    (next_byte s i 1 8 48 _ b refl refl ib.0 ib.1
-    (first_byte s i a ia.0 ia.1)))))))
+-- eight bytes, highest first, are a field of 64 bits
+pub eight_field : (s : List ℕ) (i : ℕ)
+    → field s (i * 8) 64
+    ≡ (((((((get_or s i 0 % 2 ^ 8 * 2 ^ 8 + get_or s (i + 1) 0 % 2 ^ 8) * 2 ^ 8 + get_or s (i + 2) 0 % 2 ^ 8) * 2 ^ 8 + get_or s (i + 3) 0 % 2 ^ 8) * 2 ^ 8 + get_or s (i + 4) 0 % 2 ^ 8) * 2 ^ 8 + get_or s (i + 5) 0 % 2 ^ 8) * 2 ^ 8 + get_or s (i + 6) 0 % 2 ^ 8) * 2 ^ 8 + get_or s (i + 7) 0 % 2 ^ 8)
+eight_field s i =
+    let next : (w k : ℕ) (x : ℕ) → (i + k) * 8 ≡ i * 8 + w → field s (i * 8) w ≡ x → field s (i * 8) (w + 8) ≡ x * 2 ^ 8 + get_or s (i + k) 0 % 2 ^ 8 =
+    λ w k x e f. field_split s (i * 8) w 8 ∙ ap₂ (λ (y z : ℕ). y * 2 ^ 8 + z) f (byte_field s (i * 8 + w) (i + k) (sym e)) in
+    next 56 7 _ (omega arith)
+    (next 48 6 _ (omega arith)
+    (next 40 5 _ (omega arith)
+    (next 32 4 _ (omega arith)
+    (next 24 3 _ (omega arith)
+    (next 16 2 _ (omega arith)
+    (next 8 1 _ (omega arith) (byte_field s (i * 8) i refl)))))))

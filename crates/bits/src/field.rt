@@ -124,6 +124,7 @@ fn cut(all: usize, start: usize, width: usize) -> Refusal
 }
 
 // Writes a number that fits its width, where the data reaches so far.
+#[inline(always)]
 fn place(bytes: &mut [u8], start: usize, width: usize, number: u64) -> Result<usize, Refusal>
     requires { (1 ≤ width) × (width ≤ 64) × (length bytes.old ≤ 1023) }
     ensures { outcome (told_written result) bytes.new ≡ put_where_room bytes.old start width number }

@@ -118,19 +118,21 @@ fn spliced(x: u64, m: usize, j: usize, v: u64) -> u64
     x - (old << j) + (new << j)
 }
 
-// Eight bytes from byte i on, highest first. In this form it is one load.
+// Eight bytes from byte i on, highest first. It is one load.
 pub(crate) fn eight_at(bytes: &[u8], i: usize) -> u64
     requires { i + 8 ≤ length bytes.now }
     ensures { result ≡ field bytes.now (i * 8) 64 }
 {
-    ((bytes[i] as u64) << 56)
-        | ((bytes[i + 1] as u64) << 48)
-        | ((bytes[i + 2] as u64) << 40)
-        | ((bytes[i + 3] as u64) << 32)
-        | ((bytes[i + 4] as u64) << 24)
-        | ((bytes[i + 5] as u64) << 16)
-        | ((bytes[i + 6] as u64) << 8)
-        | (bytes[i + 7] as u64)
+    u64::from_be_bytes([
+        bytes[i],
+        bytes[i + 1],
+        bytes[i + 2],
+        bytes[i + 3],
+        bytes[i + 4],
+        bytes[i + 5],
+        bytes[i + 6],
+        bytes[i + 7],
+    ])
 }
 
 // A byte as a number. It is a function, and not `as`, since the loop that writes the bytes knows no bound of them: this

@@ -5,7 +5,6 @@ use mathlib.Core.List.{List, ◌++◌, flatten}
 use Prim.Native.Nat.{ℕ, ◌+◌, ◌<◌}
 use lib.ListN.{length, take}
 use lib.Dec.{eqb}
-use borrow.Author.Tests.{ne_eqb}
 use Rattle.frames.specs.Scan.{Wait, Handed, after, scan, framed}
 use Rattle.frames.specs.Framing.{Lawful, decide}
 use Rattle.frames.specs.Rtcm.{Kind, rtcm}
@@ -31,10 +30,6 @@ lawful_if false = both_lawful
 -- EVERY MODE is lawful.
 pub lawful : (mode : ℕ) → Lawful (framing_of mode)
 lawful mode = lawful_if (eqb mode 0)
-
--- every mode but 0 is that of both kinds
-pub in_mode : (mode : ℕ) → (mode ≡ 0 → ⊥) → both ≡ framing_of mode
-in_mode mode h = rw (ne_eqb mode 0 h)
 
 -- a scanner opened for RTCM only behaves as before
 pub mode_zero : framing_of 0 ≡ rtcm

@@ -1,12 +1,12 @@
 -- The first byte of a frame tells its kind; a byte that starts no frame is skipped by itself. Assumes nothing.
-use mathlib.Core.Path.{◌≡◌, refl, sym, subst}
+use mathlib.Core.Path.{◌≡◌, refl}
 use mathlib.Core.Bool.{Bool, true, false, cond, ◌||◌, true≢false}
 use mathlib.Core.List.{List}
 use Prim.Native.Nat.{ℕ, ◌+◌}
 use native.Mathlib.Omega.{arith}
 use lib.ListN.{get_or}
 use lib.Dec.{eqb}
-use borrow.Author.Tests.{eqb-true, eq-eqb, ne_eqb}
+use borrow.Author.Tests.{eqb-true, ne_eqb}
 use Rattle.frames.specs.Scan.{Skip, Take}
 use Rattle.frames.specs.Framing.{Framing}
 use Rattle.frames.specs.Frame.{data_length, sent_sum, own_sum}
@@ -14,7 +14,7 @@ use Rattle.frames.specs.Rtcm.{Why, NotD3, BadCheck, OfUbx, NotB5, No62, TooLong,
 use Rattle.frames.specs.Ubx.{ubx, is_b5, is62, is_long_ubx, payload, same_sums, sent_sums, own_sums}
 use Rattle.frames.specs.Either.{either}
 use Rattle.frames.specs.Modes.{both, framing_of}
-use Rattle.frames.specs.Steps.{starts_rtcm, starts_either, starts_in, Start}
+use Rattle.frames.specs.Steps.{starts_rtcm, starts_either, starts_in}
 
 -- the byte that a frame of a kind starts with
 abbrev pub start_of : Kind → ℕ
@@ -117,11 +117,3 @@ d3_starts x e = rw e
 
 pub none_starts : (x : ℕ) → (x ≡ 0xB5 → ⊥) → (x ≡ 0xD3 → ⊥) → starts_either x ≡ false
 none_starts x b d = rw (ne_eqb x 0xB5 b, ne_eqb x 0xD3 d)
-
-module _ (s : List ℕ) (i j mode : ℕ) where
-  -- the search for D3 alone is that of mode 0, the search for both that of every other
-  pub in_rtcm : mode ≡ 0 → Start starts_rtcm s i j → Start (starts_in mode) s i j
-  in_rtcm e x = subst (λ b. Start (λ y. cond b (starts_rtcm y) (starts_either y)) s i j) (sym (eq-eqb mode 0 e)) x
-
-  pub in_both : (mode ≡ 0 → ⊥) → Start starts_either s i j → Start (starts_in mode) s i j
-  in_both n x = subst (λ b. Start (λ y. cond b (starts_rtcm y) (starts_either y)) s i j) (sym (ne_eqb mode 0 n)) x

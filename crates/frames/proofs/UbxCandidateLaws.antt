@@ -179,10 +179,10 @@ module _ (mode : ℕ) (t : List ℕ) where
       at_d3_lem = by_d3 t e ∙ candidate_both
 
 -- a start byte of RTCM only is D3, and so is one of both kinds that is not B5
-pub only_d3 : (mode x : ℕ) → mode ≡ 0 → starts_in mode x ≡ true → x ≡ 0xD3
+only_d3 : (mode x : ℕ) → mode ≡ 0 → starts_in mode x ≡ true → x ≡ 0xD3
 only_d3 mode x e s = eqb-true x 0xD3 (rw (eq-eqb mode 0 e) at s)
 
-pub else_d3 : (mode x : ℕ) → (mode ≡ 0 → ⊥) → (x ≡ 0xB5 → ⊥) → starts_in mode x ≡ true → x ≡ 0xD3
+else_d3 : (mode x : ℕ) → (mode ≡ 0 → ⊥) → (x ≡ 0xB5 → ⊥) → starts_in mode x ≡ true → x ≡ 0xD3
 else_d3 mode x n e s = eqb-true x 0xD3 (rw (ne_eqb mode 0 n, ne_eqb x 0xB5 e) at s)
 
 -- a B5 starts no frame of RTCM only; a start byte that is not B5 is D3, and decided as one of RTCM

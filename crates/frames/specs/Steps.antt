@@ -11,10 +11,17 @@ use Rattle.frames.specs.Call as call
 use Rattle.frames.specs.Call.{Scanner, held_from, onwards, FedOutcome}
 use Rattle.frames.specs.Rtcm.{Kind, Rtcm, Ubx}
 use Rattle.frames.specs.Ubx as ubx
+use Rattle.frames.specs.declared.mode.Mode.{Mode}
+use Rattle.frames.specs.declared.mode.Mode.TheVariants as modes
 use Rattle.frames.specs.declared.scan.Candidate.{Candidate}
 use Rattle.frames.specs.declared.scan.Candidate.TheVariants.{Incomplete, NotValid, Good}
 use Rattle.frames.specs.declared.scan.Searched.{Searched}
 use Rattle.frames.specs.declared.scan.Searched.TheVariants.{More, Frame}
+
+-- the number of a mode
+abbrev pub number_of : Mode → ℕ
+number_of modes.Rtcm = 0
+number_of modes.Both = 1
 
 -- the byte that starts a frame of RTCM; the bytes that start one of either kind; those of a mode
 abbrev pub starts_rtcm : ℕ → Bool

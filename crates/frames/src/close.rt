@@ -7,6 +7,7 @@ ghost use Rattle.frames.specs.Close.{closed_by, close_of};
 ghost use Rattle.frames.specs.Answers.{known, known_fed, known_closed, told_closed};
 ghost use Rattle.frames.specs.Steps.{moved, CanHold};
 
+use crate::mode::Mode;
 use crate::scan::Searched;
 use crate::scanner::{Fed, Kind, Scanner};
 use crate::{frame, scan, scanner};
@@ -40,7 +41,8 @@ pub fn close(held: &mut [u8], scanner: Scanner, out: &mut [u8]) -> Result<Closed
         return Err(Refusal::Room(1029));
     }
     let count = scanner.count;
-    let searched = scan::find_at_end(&held[0..count], scanner.mode);
+    let mode = Mode::of(scanner.mode);
+    let searched = scan::find_at_end(&held[0..count], mode);
     Ok(ended(carry_out(held, scanner, out, searched)))
 }
 

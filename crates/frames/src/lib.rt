@@ -9,6 +9,7 @@ pub mod frame;
 pub mod list;
 mod list_many;
 mod many;
+mod mode;
 pub mod scan;
 pub mod scanner;
 mod ubx;

@@ -3,11 +3,12 @@ ghost use Rattle.std.specs.Prelude.{◌≡◌, ◌++◌, ◌+◌, ◌-◌, ◌^�
 ghost use Rattle.frames.specs.Scan.{scan};
 ghost use Rattle.frames.specs.Framing.{decide};
 ghost use Rattle.frames.specs.Modes.{framing_of};
-ghost use Rattle.frames.specs.Steps.{candidate};
+ghost use Rattle.frames.specs.Steps.{candidate, number_of};
 ghost use Rattle.frames.specs.declared.scan.Candidate.TheVariants.{Good};
 ghost use Rattle.frames.specs.Listing.{list_of};
 ghost use Rattle.frames.specs.ListSteps.{listed, list_on, Sizes, Within};
 
+use crate::mode::Mode;
 use crate::scan::Candidate;
 use crate::{frame, list_many, scan};
 
@@ -35,6 +36,7 @@ pub fn frames_across(
     let h = held.len().min(1029);
     let n = piece.len().min(65536);
     let room = starts.len().min(lengths.len());
+    let mode = Mode::of(mode);
     list_plain(&held[0..h], &piece[0..n], mode, room, starts, lengths)
 }
 
@@ -43,13 +45,13 @@ pub fn frames_across(
 fn list_plain(
     held: &[u8],
     piece: &[u8],
-    mode: u32,
+    mode: Mode,
     room: usize,
     starts: &mut [u32],
     lengths: &mut [u32],
 ) -> Listing
     requires { Sizes (length held.now) (length piece.now) room starts.old lengths.old }
-    ensures { (result, starts.new, lengths.new) ≡ list_on room 0 0 0 (scan (decide (framing_of mode)) (held.now ++ piece.now)).items starts.old lengths.old }
+    ensures { (result, starts.new, lengths.new) ≡ list_on room 0 0 0 (scan (decide (framing_of (number_of mode))) (held.now ++ piece.now)).items starts.old lengths.old }
 {
     let all = held.len() + piece.len();
     let mut i: usize = 0;
@@ -92,14 +94,14 @@ fn list_plain(
 fn list_run(
     held: &[u8],
     piece: &[u8],
-    mode: u32,
+    mode: Mode,
     places: usize,
     reached: Listing,
     starts: &mut [u32],
     lengths: &mut [u32],
 ) -> Listing
     requires { Sizes (length held.now) (length piece.now) places starts.old lengths.old × Within (length held.now + length piece.now) places reached }
-    ensures { Within (length held.now + length piece.now) places result × (list_on (places - result.count) result.count result.stop result.framed (scan (decide (framing_of mode)) (drop result.stop (held.now ++ piece.now))).items starts.new lengths.new ≡ list_on (places - reached.count) reached.count reached.stop reached.framed (scan (decide (framing_of mode)) (drop reached.stop (held.now ++ piece.now))).items starts.old lengths.old) × (reached.stop ≤ result.stop) }
+    ensures { Within (length held.now + length piece.now) places result × (list_on (places - result.count) result.count result.stop result.framed (scan (decide (framing_of (number_of mode))) (drop result.stop (held.now ++ piece.now))).items starts.new lengths.new ≡ list_on (places - reached.count) reached.count reached.stop reached.framed (scan (decide (framing_of (number_of mode))) (drop reached.stop (held.now ++ piece.now))).items starts.old lengths.old) × (reached.stop ≤ result.stop) }
 {
     let mut i = reached.stop;
     let mut framed = reached.framed;
@@ -116,9 +118,9 @@ fn list_run(
 }
 
 // The length of the frame of RTCM that stands at place i, wholly in the piece.
-fn frame_here(held: &[u8], piece: &[u8], i: usize, mode: u32) -> Option<usize>
+fn frame_here(held: &[u8], piece: &[u8], i: usize, mode: Mode) -> Option<usize>
     requires { (i ≤ length held.now + length piece.now) × (length held.now + length piece.now < 2 ^ 64) }
-    ensures { IfSome result (λ n. Good n ≡ candidate (framing_of mode) (drop i (held.now ++ piece.now))) }
+    ensures { IfSome result (λ n. Good n ≡ candidate (framing_of (number_of mode)) (drop i (held.now ++ piece.now))) }
 {
     let h = held.len();
     if i < h {

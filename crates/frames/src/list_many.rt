@@ -3,9 +3,11 @@ ghost use Rattle.std.specs.Prelude.{◌≡◌, ◌++◌, ◌+◌, ◌-◌, ◌<�
 ghost use Rattle.frames.specs.Scan.{scan};
 ghost use Rattle.frames.specs.Framing.{decide};
 ghost use Rattle.frames.specs.Modes.{both, framing_of};
+ghost use Rattle.frames.specs.Steps.{number_of};
 ghost use Rattle.frames.specs.ListSteps.{list_on, Sizes, Within};
 
 use crate::list::Listing;
+use crate::mode::Mode;
 use crate::scan::Candidate;
 use crate::{list, many, scan};
 
@@ -13,20 +15,22 @@ use crate::{list, many, scan};
 pub(crate) fn list_on(
     held: &[u8],
     piece: &[u8],
-    mode: u32,
+    mode: Mode,
     room: usize,
     reached: Listing,
     starts: &mut [u32],
     lengths: &mut [u32],
 ) -> Listing
     requires { Sizes (length held.now) (length piece.now) room starts.old lengths.old × Within (length held.now + length piece.now) room reached }
-    ensures { (result, starts.new, lengths.new) ≡ list_on (room - reached.count) reached.count reached.stop reached.framed (scan (decide (framing_of mode)) (drop reached.stop (held.now ++ piece.now))).items starts.old lengths.old }
+    ensures { (result, starts.new, lengths.new) ≡ list_on (room - reached.count) reached.count reached.stop reached.framed (scan (decide (framing_of (number_of mode))) (drop reached.stop (held.now ++ piece.now))).items starts.old lengths.old }
 {
-    if mode == 0 {
-        return list_rtcm(held, piece, room, reached, starts, lengths);
+    match mode {
+        Mode::Rtcm => list_rtcm(held, piece, room, reached, starts, lengths),
+        Mode::Both => {
+            let mut runs = [0u32; 4097];
+            list_by(held, piece, room, reached, &mut runs, starts, lengths)
+        }
     }
-    let mut runs = [0u32; 4097];
-    list_by(held, piece, room, reached, &mut runs, starts, lengths)
 }
 
 // The same of RTCM only. The first window is a small one, since many frames may stand near.
@@ -51,7 +55,7 @@ fn list_rtcm(
     let mut stop = near.stop;
     // From candidate to candidate: no `for` goes that way.
     while k < room {
-        let at = scan::next_start(held, piece, i, 0);
+        let at = scan::next_start(held, piece, i, Mode::Rtcm);
         if all <= at {
             return list::ended(k, at, framed, false);
         }
@@ -100,7 +104,7 @@ fn list_by(
     let mut at = many::begun(near, i);
     // From candidate to candidate: no `for` goes that way.
     while k < room {
-        let j = scan::next_start(held, piece, i, 1);
+        let j = scan::next_start(held, piece, i, Mode::Both);
         if all <= j {
             return list::ended(k, j, framed, false);
         }

@@ -8,9 +8,10 @@ ghost use Rattle.frames.specs.Rtcm.{rtcm};
 ghost use Rattle.frames.specs.Frame.{data_length};
 ghost use Rattle.frames.specs.Ubx.{ubx};
 ghost use Rattle.frames.specs.Modes.{both, framing_of};
-ghost use Rattle.frames.specs.Steps.{starts_either, candidate, searched, Reached, Tails, Runs, Whole, Ready, Passes};
+ghost use Rattle.frames.specs.Steps.{starts_either, candidate, searched, number_of, Reached, Tails, Runs, Whole, Ready, Passes};
 ghost use Rattle.frames.specs.declared.scan.Candidate.TheVariants.{NotValid};
 
+use crate::mode::Mode;
 use crate::scan::{Candidate, Searched};
 use crate::{scan, scanner, ubx};
 
@@ -23,15 +24,17 @@ pub(crate) struct Window {
 
 // The search goes on from place `from`, with the bytes up to place `first` taken. Only a search for both kinds has room for
 // the sums of UBX.
-pub(crate) fn find_on(held: &[u8], piece: &[u8], mode: u32, from: usize, first: usize) -> Searched
-    requires { (Reached (framing_of mode) held.now piece.now from (first - length held.now)) × (length held.now ≤ first) × (length held.now + length piece.now < 2 ^ 64) }
-    ensures { result ≡ searched (feed (decide (framing_of mode)) held.now piece.now) }
+pub(crate) fn find_on(held: &[u8], piece: &[u8], mode: Mode, from: usize, first: usize) -> Searched
+    requires { (Reached (framing_of (number_of mode)) held.now piece.now from (first - length held.now)) × (length held.now ≤ first) × (length held.now + length piece.now < 2 ^ 64) }
+    ensures { result ≡ searched (feed (decide (framing_of (number_of mode))) held.now piece.now) }
 {
-    if mode == 0 {
-        return find_rtcm(held, piece, from, first);
+    match mode {
+        Mode::Rtcm => find_rtcm(held, piece, from, first),
+        Mode::Both => {
+            let mut runs = [0u32; 4097];
+            find_by(held, piece, from, first, &mut runs)
+        }
     }
-    let mut runs = [0u32; 4097];
-    find_by(held, piece, from, first, &mut runs)
 }
 
 // The same for RTCM only. The first window is a small one, since a frame may stand near.
@@ -49,7 +52,7 @@ fn find_rtcm(held: &[u8], piece: &[u8], from: usize, first: usize) -> Searched
     let mut end = first;
     // From candidate to candidate: no `for` goes that way.
     while i < all {
-        let j = scan::next_start(held, piece, i, 0);
+        let j = scan::next_start(held, piece, i, Mode::Rtcm);
         if all <= j {
             return Searched::More(j);
         }
@@ -146,7 +149,7 @@ fn find_by(held: &[u8], piece: &[u8], from: usize, first: usize, runs: &mut [u32
     let mut end = first;
     // From candidate to candidate: no `for` goes that way.
     while i < all {
-        let j = scan::next_start(held, piece, i, 1);
+        let j = scan::next_start(held, piece, i, Mode::Both);
         if all <= j {
             return Searched::More(j);
         }

@@ -2,7 +2,7 @@
 //
 // The search looks at bytes that are held and a piece behind them as one stream, which is nowhere copied together.
 // They go as two slices: a struct of both is handed on by its address, which was tried, where a call is not put into its
-// caller. The mode is the number that C gives a scanner, as in the statements of the public calls.
+// caller.
 ghost use Rattle.std.specs.Prelude.{◌≡◌, true, [], ◌++◌, ◌+◌, ◌*◌, ◌^◌, ◌≤◌, ◌<◌, length, get_or, take, drop};
 ghost use Rattle.bits.specs.Field.{field};
 ghost use Rattle.bits.specs.Crc.{crc};
@@ -14,8 +14,9 @@ ghost use Rattle.frames.specs.Close.{ending};
 ghost use Rattle.frames.specs.Walk.{next_from};
 ghost use Rattle.frames.specs.Answers.{told_next};
 ghost use Rattle.frames.specs.declared.scan.Candidate.TheVariants.{Incomplete};
-ghost use Rattle.frames.specs.Steps.{starts_rtcm, starts_either, starts_in, Start, candidate, searched, among};
+ghost use Rattle.frames.specs.Steps.{starts_rtcm, starts_either, starts_in, Start, candidate, searched, among, number_of};
 
+use crate::mode::Mode;
 use crate::{many, ubx};
 use bits::crc;
 
@@ -34,7 +35,7 @@ pub fn next_frame(bytes: &[u8], from: usize) -> Next
     if all <= from {
         return Next::Held(all);
     }
-    match first_frame(&bytes[0..0], &bytes[from..all], 0) {
+    match first_frame(&bytes[0..0], &bytes[from..all], Mode::Rtcm) {
         Searched::More(i) => Next::Held(from + i),
         Searched::Frame {
             skipped: i,
@@ -59,19 +60,21 @@ pub(crate) enum Searched {
     },
 }
 
-// The first frame of the held bytes with the piece behind them: in mode 0 of RTCM, else of either kind. A call for RTCM has
-// a copy of the search of its own, in which the mode is known.
-pub(crate) fn find_frame(held: &[u8], piece: &[u8], mode: u32) -> Searched
+// The first frame of the held bytes with the piece behind them: of RTCM, or of either kind. Each mode has a copy of
+// the search of its own, in which it is known.
+pub(crate) fn find_frame(held: &[u8], piece: &[u8], mode: Mode) -> Searched
     requires { length held.now + length piece.now < 2 ^ 64 }
-    ensures { result ≡ searched (feed (decide (framing_of mode)) held.now piece.now) }
+    ensures { result ≡ searched (feed (decide (framing_of (number_of mode))) held.now piece.now) }
 {
-    if mode == 0 {
-        if still_waits(held, piece) {
-            return Searched::More(0);
+    match mode {
+        Mode::Rtcm => {
+            if still_waits(held, piece) {
+                return Searched::More(0);
+            }
+            first_frame(held, piece, Mode::Rtcm)
         }
-        return first_frame(held, piece, 0);
+        Mode::Both => first_frame(held, piece, Mode::Both),
     }
-    first_frame(held, piece, mode)
 }
 
 // Whether the bytes held start with a candidate of RTCM that the piece does not finish.
@@ -91,9 +94,9 @@ fn still_waits(held: &[u8], piece: &[u8]) -> bool
 // The first frame in a mode. Each candidate's sum is taken by itself, until those that failed are many for the way that was
 // made; from there on a window decides.
 #[inline(always)]
-fn first_frame(held: &[u8], piece: &[u8], mode: u32) -> Searched
+fn first_frame(held: &[u8], piece: &[u8], mode: Mode) -> Searched
     requires { length held.now + length piece.now < 2 ^ 64 }
-    ensures { result ≡ searched (feed (decide (framing_of mode)) held.now piece.now) }
+    ensures { result ≡ searched (feed (decide (framing_of (number_of mode))) held.now piece.now) }
 {
     let h = held.len();
     let all = h + piece.len();
@@ -132,8 +135,8 @@ fn first_frame(held: &[u8], piece: &[u8], mode: u32) -> Searched
 
 // The first frame of the bytes held at the end of a recording, where nothing waits: an unfinished candidate is skipped by
 // one byte.
-pub(crate) fn find_at_end(held: &[u8], mode: u32) -> Searched
-    ensures { result ≡ searched (feed (decide (ending (framing_of mode))) held.now []) }
+pub(crate) fn find_at_end(held: &[u8], mode: Mode) -> Searched
+    ensures { result ≡ searched (feed (decide (ending (framing_of (number_of mode)))) held.now []) }
 {
     let all = held.len();
     let mut i: usize = 0;
@@ -160,9 +163,9 @@ pub(crate) fn find_at_end(held: &[u8], mode: u32) -> Searched
 
 // The place of the first byte from place i on that starts a frame in the mode, or the end.
 #[inline(always)]
-pub(crate) fn next_start(held: &[u8], piece: &[u8], i: usize, mode: u32) -> usize
+pub(crate) fn next_start(held: &[u8], piece: &[u8], i: usize, mode: Mode) -> usize
     requires { (i ≤ length held.now + length piece.now) × (length held.now + length piece.now < 2 ^ 64) }
-    ensures { Start (starts_in mode) (held.now ++ piece.now) i result }
+    ensures { Start (starts_in (number_of mode)) (held.now ++ piece.now) i result }
 {
     let h = held.len();
     if h <= i {
@@ -177,14 +180,14 @@ pub(crate) fn next_start(held: &[u8], piece: &[u8], i: usize, mode: u32) -> usiz
 
 // The place of the first byte of a part from a place on that starts a frame in the mode, or its end.
 #[inline(always)]
-fn next_in(part: &[u8], from: usize, mode: u32) -> usize
+fn next_in(part: &[u8], from: usize, mode: Mode) -> usize
     requires { from ≤ length part.now }
-    ensures { Start (starts_in mode) part.now from result }
+    ensures { Start (starts_in (number_of mode)) part.now from result }
 {
-    if mode == 0 {
-        return next_d3(part, from);
+    match mode {
+        Mode::Rtcm => next_d3(part, from),
+        Mode::Both => next_either(part, from),
     }
-    next_either(part, from)
 }
 
 // The place of the first D3 of a part from a place on, or its end. Past the first byte, which is one where frame follows
@@ -286,19 +289,21 @@ pub(crate) enum Candidate {
     Good(usize),
 }
 
-// The check of the start byte at place i: in mode 0 that of RTCM, else that of its kind.
+// The check of the start byte at place i: that of RTCM, or for both kinds that of its kind.
 #[inline(always)]
-pub(crate) fn candidate_at(held: &[u8], piece: &[u8], i: usize, mode: u32) -> Candidate
-    requires { (i < length held.now + length piece.now) × (length held.now + length piece.now < 2 ^ 64) × (starts_in mode (get_or (held.now ++ piece.now) i 0) ≡ true) }
-    ensures { result ≡ candidate (framing_of mode) (drop i (held.now ++ piece.now)) }
+pub(crate) fn candidate_at(held: &[u8], piece: &[u8], i: usize, mode: Mode) -> Candidate
+    requires { (i < length held.now + length piece.now) × (length held.now + length piece.now < 2 ^ 64) × (starts_in (number_of mode) (get_or (held.now ++ piece.now) i 0) ≡ true) }
+    ensures { result ≡ candidate (framing_of (number_of mode)) (drop i (held.now ++ piece.now)) }
 {
-    if mode == 0 {
-        return rtcm_at(held, piece, i);
+    match mode {
+        Mode::Rtcm => rtcm_at(held, piece, i),
+        Mode::Both => {
+            if byte_at(held, piece, i) == 0xB5 {
+                return ubx::ubx_at(held, piece, i);
+            }
+            rtcm_at(held, piece, i)
+        }
     }
-    if byte_at(held, piece, i) == 0xB5 {
-        return ubx::ubx_at(held, piece, i);
-    }
-    rtcm_at(held, piece, i)
 }
 
 // The frame check of the D3 at place i. No sum is taken before all bytes that the length asks for are there.

@@ -8,6 +8,7 @@ ghost use Rattle.frames.specs.Call.{fresh, afresh, onwards, order_of, feed_of};
 ghost use Rattle.frames.specs.Answers.{known, told_kind, known_fed, told_fed, told_order};
 ghost use Rattle.frames.specs.Steps.{kind_at, moved, CanHold};
 
+use crate::mode::Mode;
 use crate::{frame, scan};
 use bits::refusal::Refusal;
 
@@ -86,7 +87,8 @@ pub fn feed(held: &mut [u8], scanner: Scanner, piece: &[u8], out: &mut [u8]) -> 
         return Err(Refusal::Room(1029));
     }
     let count = scanner.count;
-    let searched = scan::find_frame(&held[0..count], piece, scanner.mode);
+    let mode = Mode::of(scanner.mode);
+    let searched = scan::find_frame(&held[0..count], piece, mode);
     Ok(carry_out(held, scanner, piece, out, searched))
 }
 

@@ -13,4 +13,4 @@ list_plain-requires c =
     }
 
 pub returns : goal.returns
-returns c = let a = c.args in lists_first a.mode a.held.now a.piece.now a.starts.now a.lengths.now _ _ _ c.min-h.ensures c.min-n.ensures c.min-room.ensures c.list_plain.ensures
+returns c = let a = c.args in lists_first a.mode a.held.now a.piece.now a.starts.now a.lengths.now _ _ _ c.min-h.ensures c.min-n.ensures c.min-room.ensures (rw c.of-mode.ensures at c.list_plain.ensures)

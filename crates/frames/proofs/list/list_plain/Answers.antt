@@ -5,6 +5,7 @@ use native.Mathlib.Omega.{arith}
 use lib.ListN.{length, set, length-append}
 use borrow.Author.Rules.{rules}
 use Rattle.frames.specs.Modes.{framing_of}
+use Rattle.frames.specs.Steps.{number_of}
 use Rattle.frames.proofs.ListLaws.{tells, came_first, goes_on, by_numbers, reached_so, stops_at, at_start, ends_full, ends_all, ends_short, failed_few, passes, good_few, good_inside, good_some, lists}
 use Rattle.frames.proofs.list.list_plain.Goals as goal
 
@@ -14,7 +15,7 @@ overflow_add-all c = record { fits = omega (arith, c.requires.held, c.requires.p
 pub loop-k-init : goal.loop-k-init
 loop-k-init c =
     let a = c.args in
-    (record { leads = came_first (framing_of a.mode) (a.held.now ++ a.piece.now) a.room a.starts.now a.lengths.now; inside = omega arith; counted = omega arith; each = omega arith; most = omega arith; starts = refl; lengths = refl }, omega arith)
+    (record { leads = came_first (framing_of (number_of a.mode)) (a.held.now ++ a.piece.now) a.room a.starts.now a.lengths.now; inside = omega arith; counted = omega arith; each = omega arith; most = omega arith; starts = refl; lengths = refl }, omega arith)
 
 pub next_start-j-requires : goal.next_start-j-requires
 next_start-j-requires c =
@@ -82,7 +83,7 @@ shape_of-lengths-then-i-failed c = ◌∙◌ {b = length c.loop-k.lengths} (sear
 pub returns-then-i-failed : goal.returns-then-i-failed
 returns-then-i-failed c =
     let w = passes _ _ _ _ _ _ _ _ _ _ _ _ _ _ (at_start _ _ _ _ _ _ _ _ _ _ _ _ _ _ c.loop-k.invariant.0 c.loop-k-test.true _ c.next_start-j.ensures) c.loop-k-test.true _ (sym c.in-NotValid.is ∙ c.candidate_at.ensures) in
-    goes_on (framing_of c.args.mode) _ _ c.loop-k.starts c.loop-k.lengths c.ended-at.ensures c.list_on.ensures ∙ w.leads
+    goes_on (framing_of (number_of c.args.mode)) _ _ c.loop-k.starts c.loop-k.lengths c.ended-at.ensures c.list_on.ensures ∙ w.leads
 
 pub loop-k-smaller-else-i-failed : goal.loop-k-smaller-else-i-failed
 loop-k-smaller-else-i-failed c = omega (arith, c.next_start-j.ensures.from)
@@ -157,7 +158,7 @@ loop-k-preserved c =
     let w = lists _ _ _ _ _ _ _ _ _ _ _ _ _ _ (at_start _ _ _ _ _ _ _ _ _ _ _ _ _ _ c.loop-k.invariant.0 c.loop-k-test.true _ c.next_start-j.ensures) c.loop-k-test.true _ (sym c.in-Good.is ∙ c.candidate_at.ensures) in
     let r = c.list_run-run.ensures in (
       record {
-        leads = r.1 ∙ by_numbers (framing_of c.args.mode) _ _ (set c.loop-k.starts c.loop-k.k c.next_start-j.result) (set c.loop-k.lengths c.loop-k.k c.in-Good.n) c.ended-at-in-Good.ensures w.leads;
+        leads = r.1 ∙ by_numbers (framing_of (number_of c.args.mode)) _ _ (set c.loop-k.starts c.loop-k.k c.next_start-j.result) (set c.loop-k.lengths c.loop-k.k c.in-Good.n) c.ended-at-in-Good.ensures w.leads;
         inside = omega (arith, r.0.inside, length-append a.held.now a.piece.now);
         counted = r.0.counted;
         each = r.0.each;

@@ -5,6 +5,7 @@ use native.Mathlib.Omega.{arith}
 use lib.ListN.{length-append}
 use Rattle.frames.specs.Modes.{framing_of}
 use Rattle.frames.specs.ListSteps.{listed}
+use Rattle.frames.specs.Steps.{number_of}
 use Rattle.frames.proofs.ListLaws.{by_numbers, reached_so, stops_at, good_few, good_inside, lists}
 use Rattle.frames.proofs.list.list_run.Goals as goal
 
@@ -31,7 +32,7 @@ returns-in_default c =
     let a = c.args in
     let l = c.loop-k.invariant.0 in (
       reached_so _ _ c.ended.ensures (omega (arith, l.inside, length-append a.held.now a.piece.now)) l.counted l.each l.most,
-      by_numbers (framing_of c.args.mode) _ _ c.loop-k.starts c.loop-k.lengths c.ended.ensures l.leads,
+      by_numbers (framing_of (number_of c.args.mode)) _ _ c.loop-k.starts c.loop-k.lengths c.ended.ensures l.leads,
       omega (arith, c.loop-k.invariant.1, stops_at c.ended.ensures),
     )
 
@@ -92,6 +93,6 @@ returns c =
     let l = c.loop-k.invariant.0 in
     let ended = c.ended-2.ensures ∙ ap (λ k. listed k c.loop-k.i c.loop-k.framed false) (sym e) in (
       reached_so _ _ ended (omega (arith, l.inside, length-append a.held.now a.piece.now)) l.counted l.each l.most,
-      by_numbers (framing_of c.args.mode) _ _ c.loop-k.starts c.loop-k.lengths ended l.leads,
+      by_numbers (framing_of (number_of c.args.mode)) _ _ c.loop-k.starts c.loop-k.lengths ended l.leads,
       omega (arith, c.loop-k.invariant.1, stops_at ended),
     )

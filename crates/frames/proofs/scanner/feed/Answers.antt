@@ -24,11 +24,11 @@ carry_out-requires c =
     let a = c.args in
     let g = in_order _ _ c.in_order.ensures c.in_ok-in_order.was in
     let f : Fits a.held.now (known a.scanner) a.piece.now a.out.now = record { area = g.area; count = g.count; held = g.held; taken = g.taken; mode = g.mode; piece = omega arith; limit = omega arith; output = omega arith } in
-    (omega arith, omega arith, omega arith, omega arith, omega arith, searched_can_hold a.scanner.mode a.held.now (known a.scanner) a.piece.now a.out.now f _ c.find_frame-searched.ensures)
+    (omega arith, omega arith, omega arith, omega arith, omega arith, searched_can_hold a.scanner.mode a.held.now (known a.scanner) a.piece.now a.out.now f _ (rw c.of-mode.ensures at c.find_frame-searched.ensures))
 
 pub returns : goal.returns
 returns c =
     let a = c.args in
     let g = in_order _ _ c.in_order.ensures c.in_ok-in_order.was in
     let f : Fits a.held.now (known a.scanner) a.piece.now a.out.now = record { area = g.area; count = g.count; held = g.held; taken = g.taken; mode = g.mode; piece = omega arith; limit = omega arith; output = omega arith } in
-    c.carry_out.ensures ∙ searched_moves a.scanner.mode a.held.now (known a.scanner) a.piece.now a.out.now f _ c.find_frame-searched.ensures
+    c.carry_out.ensures ∙ searched_moves a.scanner.mode a.held.now (known a.scanner) a.piece.now a.out.now f _ (rw c.of-mode.ensures at c.find_frame-searched.ensures)
