@@ -161,7 +161,8 @@ pub(crate) fn find_at_end(held: &[u8], mode: Mode) -> Searched
     Searched::More(i)
 }
 
-// The place of the first byte from place i on that starts a frame in the mode, or the end.
+// The place of the first byte from place i on that starts a frame in the mode, or the end, where a search that finds none
+// stops.
 #[inline(always)]
 pub(crate) fn next_start(held: &[u8], piece: &[u8], i: usize, mode: Mode) -> usize
     requires { (i ≤ length held.now + length piece.now) × (length held.now + length piece.now < 2 ^ 64) }
