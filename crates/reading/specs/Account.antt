@@ -43,9 +43,9 @@ RightClosed (Ok (Some f)) a = RightFrame f a
 RightClosed (Ok None) a = Right a × (a.held ≡ 0)
 RightClosed (Err e) a = Right a
 
--- what reading on came to: so many bytes of a new piece, or the end
+-- what reading on came to: so many bytes of a new piece, of which none is taken yet, or the end
 abbrev pub RightRead : Result (Option ℕ) Failure → Account → Type 0
-RightRead (Ok (Some n)) a = Right a
+RightRead (Ok (Some n)) a = Right a × (a.from ≡ 0) × (a.to ≡ n)
 RightRead (Ok None) a = AllTaken a
 RightRead (Err e) a = Right a
 

@@ -50,7 +50,7 @@ pub struct Found {
 impl Account {
     // The account before anything is read in a mode.
     pub fn start(mode: Mode) -> Account
-        ensures { AllTaken result }
+        ensures { AllTaken result × (result.mode ≡ mode) }
     {
         Account {
             bytes: 0,
@@ -130,7 +130,7 @@ impl Account {
 
     // A piece of n bytes is read. What is left of the one before, if anything is, counts as skipped.
     pub(crate) fn grown(self, n: usize) -> Account
-        ensures { Right self → n ≤ 65536 → Right result }
+        ensures { Right self → n ≤ 65536 → Right result × (result.from ≡ 0) × (result.to ≡ n) }
     {
         let left = self.to.saturating_sub(self.from);
         Account {

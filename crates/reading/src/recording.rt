@@ -49,7 +49,7 @@ impl<'a> Recording<'a> {
 
     // Nothing is read at first.
     pub fn new(source: Source, name: &'a [u8], terminal: Terminal, mode: Mode) -> Recording<'a>
-        ensures { AllTaken result.account }
+        ensures { AllTaken result.account × (result.account.mode ≡ mode) × (result.name.now ≡ name.now) }
     {
         Recording {
             source,
