@@ -55,32 +55,19 @@ pub fn write(
 fn is_edition(edition: u32) -> bool
     ensures { result ≡ is_edition edition }
 {
-    if edition == 0 {
-        return false;
-    }
-    edition < 3
+    0 < edition && edition < 3
 }
 
 // Whether the numbers of a header fit their fields.
 fn header_fits(header: Header1059) -> bool
     ensures { result ≡ header_fits1059 header }
 {
-    if 1048575 < header.epoch {
-        return false;
-    }
-    if 15 < header.interval {
-        return false;
-    }
-    if 1 < header.multiple {
-        return false;
-    }
-    if 15 < header.iod {
-        return false;
-    }
-    if 65535 < header.provider {
-        return false;
-    }
-    header.solution < 16
+    header.epoch < 0x10_0000
+        && header.interval < 16
+        && header.multiple < 2
+        && header.iod < 16
+        && header.provider < 0x1_0000
+        && header.solution < 16
 }
 
 // The message number and the header.

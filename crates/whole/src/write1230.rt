@@ -46,13 +46,7 @@ pub fn write(
 fn header_fits(header: Header1230) -> bool
     ensures { result ≡ header_fits1230 header }
 {
-    if 4095 < header.station {
-        return false;
-    }
-    if 1 < header.indicator {
-        return false;
-    }
-    header.reserved < 8
+    header.station < 4096 && header.indicator < 2 && header.reserved < 8
 }
 
 // The message number and the header.
