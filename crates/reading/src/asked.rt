@@ -1,4 +1,4 @@
-// What the words of a program ask for that has no option of its own.
+// What the words of a program ask for, its own options aside.
 ghost use Rattle.reading.specs.Asked.{Comes, IsWord, Behind, nothing as asked_nothing, noted as asked_noted, named as asked_named};
 ghost use Rattle.std.specs.Prelude.{◌≡◌, ◌↔◌, IsTrue};
 
@@ -33,7 +33,7 @@ pub fn all(env: &impl Env) -> Asked
 
 impl Asked {
     // What no word at all asks for.
-    fn nothing() -> Asked
+    pub fn nothing() -> Asked
         ensures { result ≡ asked_nothing }
     {
         Asked {
@@ -48,7 +48,7 @@ impl Asked {
     }
 
     // What is asked for once word i is known too.
-    fn noted(self, kind: Kind, i: usize) -> Asked
+    pub fn noted(self, kind: Kind, i: usize) -> Asked
         ensures { result ≡ asked_noted self kind i }
     {
         match kind {

@@ -10,9 +10,11 @@ mod program;
 mod recording;
 pub mod skips;
 mod source;
+mod visit;
 
 pub use account::{Account, Found, Mode};
 pub use number::{frame_of, number_of};
 pub use program::{Failure, Program};
 pub use recording::{Before, Recording, Step};
 pub use source::Source;
+pub use visit::Visit;

@@ -2,28 +2,23 @@
 ghost use Rattle.std.specs.Prelude.{◌≤◌};
 ghost use Rattle.reading.specs.Load.{Fits};
 
-use crate::arguments::Kind;
-use crate::{Failure, Program, Source, asked};
+use crate::{Failure, Program, Source};
 use std::env::Env;
 use std::fs::{File, Files};
 
-// Reads what argument i names, where `rest` is the place of `--`, and answers how many bytes stand at the front of the area
-// then. Where it cannot be read, or is longer than the area, that is said.
+// Reads what argument i names, and answers how many bytes stand at the front of the area then. Where it cannot be read, or
+// is longer than the area, that is said.
 pub fn load(
     rt: &(impl Env + Files<File = File>),
     program: &Program,
     i: usize,
-    rest: Option<usize>,
     area: &mut [u8; 65536],
 ) -> Result<usize, Failure>
     ensures { Fits result }
 {
     let word = program.word(rt, i)?;
-    let path = word.bytes();
-    match asked::kind_of(path, i, rest) {
-        Kind::Input => load_open(program, program.input(), b"standard input", area),
-        _ => load_open(program, program.open(rt, path)?, path, area),
-    }
+    let (source, name) = program.source(rt, word.bytes())?;
+    load_open(program, source, name, area)
 }
 
 // Reads until the area is full or nothing more comes, and once more, which tells the end from a failure and from a longer

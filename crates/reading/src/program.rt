@@ -1,14 +1,15 @@
 // A program that goes through recordings, and what it says of itself and of what failed.
-ghost use Rattle.std.specs.Prelude.{◌≡◌, ◌≤◌, length, IfOk, IfErr};
+ghost use Rattle.std.specs.Prelude.{◌≡◌, ◌≤◌, length, false, IfOk, IfErr, IfSome, None};
 ghost use Rattle.reading.specs.Arguments.{IsFile};
 
-use crate::arguments::Word;
+use crate::arguments::{Kind, Word};
+use crate::asked::Asked;
 use crate::{Source, arguments};
 use printing::{Output, Sink, Terminal, Unwritten};
 use std::env::{Env, FillError};
 use std::fs::{File, Files};
 use std::io;
-use std::rt::Stdin;
+use std::rt::{Stderr, Stdin, Stdout};
 
 // The system's numbers for a word that is not there, and for one that is too long.
 const INVALID: i32 = 22;
@@ -45,13 +46,13 @@ pub struct Program {
 }
 
 impl Program {
-    pub fn new(name: &'static str, input: Stdin, terminal: Terminal) -> Program
-        ensures { (result.name.now ≡ name.now) × (result.input ≡ input) × (result.terminal ≡ terminal) }
+    pub fn new(name: &'static str, input: Stdin, output: Stdout, errors: Stderr) -> Program
+        ensures { (result.name.now ≡ name.now) × (result.input ≡ input) × (result.terminal ≡ record { output = output; errors = errors }) }
     {
         Program {
             name,
             input,
-            terminal,
+            terminal: Terminal::new(output, errors),
         }
     }
 
@@ -85,6 +86,21 @@ impl Program {
                 self.terminal.fail(b"argument", &wrong_word(error));
                 Err(Failure::Unread)
             }
+        }
+    }
+
+    // Opens what a word names, which is standard input or a file, and answers what it is called. Where it cannot be opened,
+    // that is said.
+    pub fn source<'a>(
+        &self,
+        files: &impl Files<File = File>,
+        word: &'a [u8],
+    ) -> Result<(Source, &'a [u8]), Failure>
+        ensures { IfErr result (λ e. e ≡ Failure.Unread) }
+    {
+        match arguments::operand_of(word) {
+            Kind::Input => Ok((self.input(), b"standard input")),
+            _ => Ok((self.open(files, word)?, word)),
         }
     }
 
@@ -140,15 +156,31 @@ impl Program {
         self.terminal.say(words);
     }
 
-    // Says that the program failed, on the last line. Its exit status is 0 whatever happens.
-    pub fn failed(&self)
+    // The end: says on the last line that the program failed, if it did. Its exit status is 0 whatever happens.
+    pub fn end(&self, done: Result<(), Failure>)
         ensures { result ≡ tt }
     {
-        self.say(": failed\n");
+        if done.is_err() {
+            self.say(": failed\n");
+        }
+    }
+
+    // If it is asked for, writes what the program tells of itself: the text for --help, or its version.
+    pub fn about(&self, asked: Asked, help: &str) -> Option<Result<(), Failure>>
+        ensures told { IfSome result (λ r. IfErr r (λ e. e ≡ Failure.Unwritten)) }
+        ensures unasked { asked.help ≡ false → asked.version ≡ false → result ≡ None }
+    {
+        if asked.help {
+            return Some(self.tell(help));
+        }
+        if asked.version {
+            return Some(self.version());
+        }
+        None
     }
 
     // Writes the program's name and its version, that of the library.
-    pub fn version(&self) -> Result<(), Failure>
+    fn version(&self) -> Result<(), Failure>
         ensures { IfErr result (λ e. e ≡ Failure.Unwritten) }
     {
         self.tell(self.name)?;
@@ -156,7 +188,7 @@ impl Program {
     }
 
     // Writes what the program tells of itself. Where it cannot be written, that is said.
-    pub fn tell(&self, words: &str) -> Result<(), Failure>
+    fn tell(&self, words: &str) -> Result<(), Failure>
         ensures { IfErr result (λ e. e ≡ Failure.Unwritten) }
     {
         let mut terminal = self.terminal;

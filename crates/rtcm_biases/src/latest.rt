@@ -1,12 +1,12 @@
 // The latest bias of each provider, solution, satellite and signal: what `--latest` shows.
 use crate::found::{Lists, System};
-use crate::options::{Asked, Settings};
-use crate::recordings::Visit;
-use crate::{found, recordings, table};
+use crate::options::{Argument, Asked};
+use crate::{found, table};
 use cache::cache::Key;
 use frames::frame;
 use printing::{Amount, Output, Terminal};
-use reading::{Failure, Program, Recording, Step};
+use reading::arguments::{Kind, Word};
+use reading::{Failure, Mode, Program, Recording, Step, Visit};
 use std::env::Env;
 use std::fs::{File, Files};
 use whole::answer::Header1059;
@@ -21,7 +21,7 @@ pub fn all(
         entries: [[0; 7]; 512],
         sum: Sum::none(),
     };
-    let end = recordings::all(rt, program, asked.rest, &mut latest);
+    let end = program.each(rt, asked.words.rest, Mode::Rtcm, &mut latest);
     let mut out = program.output();
     show(&mut out, &latest.entries, asked.settings.edition)?;
     latest.sum.show(&mut out);
@@ -72,8 +72,19 @@ struct Latest {
 }
 
 impl Visit for Latest {
+    fn argument(
+        &mut self,
+        _program: &Program,
+        env: &impl Env,
+        i: usize,
+        rest: Option<usize>,
+    ) -> Result<(Word, Kind), Failure> {
+        let kind = Argument::of(env, i, rest).kind();
+        Ok((Word::or_empty(env, i), kind))
+    }
+
     // Goes through the frames. A recording in which nothing was is named on standard error.
-    fn visit(&mut self, recording: &mut Recording, _settings: Settings) -> Result<(), Failure> {
+    fn visit(&mut self, recording: &mut Recording) -> Result<(), Failure> {
         for _ in 0..u64::MAX {
             match recording.next()? {
                 Step::Frame(_) => self.keep(recording.frame()),

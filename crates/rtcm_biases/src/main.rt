@@ -4,40 +4,33 @@
 mod found;
 mod latest;
 mod options;
-mod recordings;
 mod table;
 
 use found::System;
 use frames::frame;
-use options::Settings;
+use options::{Argument, Settings};
 use printing::{Output, Terminal};
-use reading::{Failure, Program, Recording, Step};
-use recordings::Visit;
+use reading::arguments::{Kind, Word};
+use reading::{Failure, Mode, Program, Recording, Step, Visit};
 use std::env::Env;
 use std::fs::{File, Files};
 use table::Tally;
 
 fn main(rt: HostRuntime) {
-    let terminal = Terminal::new(rt.stdout(), rt.stderr());
-    let program = Program::new("rtcm_biases", rt.stdin(), terminal);
-    if run(&rt, &program).is_err() {
-        program.failed();
-    }
+    let program = Program::new("rtcm_biases", rt.stdin(), rt.stdout(), rt.stderr());
+    program.end(run(&rt, &program));
 }
 
 // Does what the arguments ask.
 fn run(rt: &(impl Env + Files<File = File>), program: &Program) -> Result<(), Failure> {
     let asked = options::all(rt);
-    if asked.help {
-        return program.tell(options::HELP);
+    if let Some(told) = program.about(asked.words, options::HELP) {
+        return told;
     }
-    if asked.version {
-        return program.version();
+    if let Some(i) = asked.words.unknown {
+        return Err(options::wrong(rt, program, i, asked.words.rest));
     }
-    if let Some(wrong) = asked.wrong {
-        return Err(wrong.say(rt, program));
-    }
-    if !asked.names_file {
+    if asked.words.first.is_none() {
         return Err(program.no_file());
     }
     if asked.latest {
@@ -46,21 +39,35 @@ fn run(rt: &(impl Env + Files<File = File>), program: &Program) -> Result<(), Fa
     let mut tables = Tables {
         out: program.output(),
         tally: Tally::none(),
+        settings: Settings::usual(),
     };
-    recordings::all(rt, program, asked.rest, &mut tables)
+    program.each(rt, asked.words.rest, Mode::Rtcm, &mut tables)
 }
 
-// Shows the tables of each recording, and counts its blocks.
+// Shows the tables of each recording, and counts its blocks. The settings are those that hold where it is named.
 #[derive(Drop)]
 struct Tables {
     out: Output<Terminal>,
     tally: Tally,
+    settings: Settings,
 }
 
 impl Visit for Tables {
-    fn visit(&mut self, recording: &mut Recording, settings: Settings) -> Result<(), Failure> {
+    fn argument(
+        &mut self,
+        _program: &Program,
+        env: &impl Env,
+        i: usize,
+        rest: Option<usize>,
+    ) -> Result<(Word, Kind), Failure> {
+        let argument = Argument::of(env, i, rest);
+        self.settings = self.settings.behind(argument);
+        Ok((Word::or_empty(env, i), argument.kind()))
+    }
+
+    fn visit(&mut self, recording: &mut Recording) -> Result<(), Failure> {
         self.tally = Tally::none();
-        let end = self.show(recording, settings);
+        let end = self.show(recording);
         if let Err(Failure::Unwritten) = end {
             return end;
         }
@@ -73,12 +80,12 @@ impl Visit for Tables {
 impl Tables {
     // Goes through the frames; the table of a block is written when its frame has arrived. A recording in which nothing was
     // is named on standard error.
-    fn show(&mut self, recording: &mut Recording, settings: Settings) -> Result<(), Failure> {
+    fn show(&mut self, recording: &mut Recording) -> Result<(), Failure> {
         for _ in 0..u64::MAX {
             let is_first = recording.account().bytes == 0;
             match recording.next()? {
                 Step::Frame(found) => {
-                    self.show_frame(recording.frame(), found.place, settings);
+                    self.show_frame(recording.frame(), found.place);
                     self.out.flush()?;
                 }
                 Step::Piece => {
@@ -96,10 +103,10 @@ impl Tables {
     }
 
     // Shows the frame, if its message is 1059 or 1230.
-    fn show_frame(&mut self, frame: &[u8], place: u64, settings: Settings) {
+    fn show_frame(&mut self, frame: &[u8], place: u64) {
         if let Some(system) = System::of_frame(frame) {
             let data = frame::data_of(frame);
-            let answer = table::message(&mut self.out, system, place, data, settings);
+            let answer = table::message(&mut self.out, system, place, data, self.settings);
             self.tally.count(answer);
         }
     }

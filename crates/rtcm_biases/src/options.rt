@@ -120,6 +120,14 @@ impl Argument {
             None => Argument::Other(arguments::kind_of(word.bytes(), b"--latest")),
         }
     }
+
+    // Its kind: all that no other program has is the program's own.
+    pub fn kind(self) -> Kind {
+        match self {
+            Argument::Other(kind) => kind,
+            _ => Kind::Own,
+        }
+    }
 }
 
 // The option whose number argument i is. The first word is the program's name.
@@ -142,58 +150,27 @@ fn number(digits: &[u8]) -> Option<u32> {
     Some(number)
 }
 
-// What is wrong with the arguments.
-#[derive(Clone, Copy)]
-pub enum Wrong {
-    // There is no such option as the argument at the place.
-    Unknown(usize),
-    // An option has no number behind it, or a word that it does not take.
-    Number,
-}
-
-impl Wrong {
-    // Says it.
-    pub fn say(self, env: &impl Env, program: &Program) -> Failure {
-        match self {
-            Wrong::Unknown(i) => program.unknown(env, i),
-            Wrong::Number => {
-                program.say(
-                    ": --start takes the number of a data bit, as --start 61, and --edition takes 1 or 2; rtcm_biases --help says more\n",
-                );
-                Failure::Refused
-            }
-        }
-    }
-}
-
-// What all the arguments ask for: `wrong` is the first thing that is wrong with them, `rest` the place of `--`, and
-// `settings` hold behind the last one.
+// What all the arguments ask for: what the words ask of any program, where an option that has no number behind it and a word
+// that it does not take are as unknown as an option that there is not; whether `--latest` is there; and the settings that hold
+// behind the last argument.
 #[derive(Clone, Copy)]
 pub struct Asked {
-    pub help: bool,
-    pub version: bool,
+    pub words: asked::Asked,
     pub latest: bool,
-    pub names_file: bool,
-    pub wrong: Option<Wrong>,
-    pub rest: Option<usize>,
     pub settings: Settings,
 }
 
 pub fn all(env: &impl Env) -> Asked {
     let mut asked = Asked {
-        help: false,
-        version: false,
+        words: asked::Asked::nothing(),
         latest: false,
-        names_file: false,
-        wrong: None,
-        rest: None,
         settings: Settings::usual(),
     };
     let count = arguments::count(env);
     for i in 1..count {
-        let argument = Argument::of(env, i, asked.rest);
+        let argument = Argument::of(env, i, asked.words.rest);
         asked = match argument {
-            Argument::Option(_) if i + 1 == count => asked.but(Wrong::Number),
+            Argument::Option(_) if i + 1 == count => asked.with_kind(Kind::Unknown, i),
             _ => asked.with(argument, i),
         };
     }
@@ -205,9 +182,13 @@ impl Asked {
     fn with(self, argument: Argument, i: usize) -> Asked {
         match argument {
             Argument::Option(_) => self,
-            Argument::Number(_, None) => self.but(Wrong::Number),
+            Argument::Number(_, None) => self.with_kind(Kind::Unknown, i),
             Argument::Number(_, Some(_)) => Asked {
                 settings: self.settings.behind(argument),
+                ..self
+            },
+            Argument::Other(Kind::Own) => Asked {
+                latest: true,
                 ..self
             },
             Argument::Other(kind) => self.with_kind(kind, i),
@@ -215,35 +196,23 @@ impl Asked {
     }
 
     fn with_kind(self, kind: Kind, i: usize) -> Asked {
-        match kind {
-            Kind::Help => Asked { help: true, ..self },
-            Kind::Version => Asked {
-                version: true,
-                ..self
-            },
-            Kind::Own => Asked {
-                latest: true,
-                ..self
-            },
-            Kind::Rest => Asked {
-                rest: Some(i),
-                ..self
-            },
-            Kind::Unknown => self.but(Wrong::Unknown(i)),
-            Kind::Input | Kind::File => Asked {
-                names_file: true,
-                ..self
-            },
-        }
-    }
-
-    // What is asked for with something that is wrong.
-    fn but(self, wrong: Wrong) -> Asked {
         Asked {
-            wrong: self.wrong.or(Some(wrong)),
+            words: self.words.noted(kind, i),
             ..self
         }
     }
+}
+
+// Says what is wrong with argument i: there is no such option, or one that takes a number has none behind it or a word that it
+// does not take.
+pub fn wrong(env: &impl Env, program: &Program, i: usize, rest: Option<usize>) -> Failure {
+    if let Argument::Other(_) = Argument::of(env, i, rest) {
+        return program.unknown(env, i);
+    }
+    program.say(
+        ": --start takes the number of a data bit, as --start 61, and --edition takes 1 or 2; rtcm_biases --help says more\n",
+    );
+    Failure::Refused
 }
 
 pub const HELP: &str =

@@ -21,29 +21,21 @@ The exit status is always 0. If something failed, the last line on standard erro
 ";
 
 fn main(rt: HostRuntime) {
-    let terminal = Terminal::new(rt.stdout(), rt.stderr());
-    let program = Program::new("rtcm_compare", rt.stdin(), terminal);
-    if run(&rt, &program).is_err() {
-        program.failed();
-    }
+    let program = Program::new("rtcm_compare", rt.stdin(), rt.stdout(), rt.stderr());
+    program.end(run(&rt, &program));
 }
 
 // Does what the arguments ask.
 fn run(rt: &(impl Env + Files<File = File>), program: &Program) -> Result<(), Failure> {
     let asked = asked::all(rt);
-    if asked.help {
-        return program.tell(HELP);
-    }
-    if asked.version {
-        return program.version();
+    if let Some(told) = program.about(asked, HELP) {
+        return told;
     }
     if let Some(i) = asked.unknown {
         return Err(program.unknown(rt, i));
     }
     match (asked.first, asked.second, asked.third) {
-        (Some(sent), Some(received), None) => {
-            compare_files(rt, program, sent, received, asked.rest)
-        }
+        (Some(sent), Some(received), None) => compare_files(rt, program, sent, received),
         _ => Err(program.misnamed("what was sent and what was received")),
     }
 }
@@ -54,12 +46,11 @@ fn compare_files(
     program: &Program,
     first: usize,
     second: usize,
-    rest: Option<usize>,
 ) -> Result<(), Failure> {
     let mut sent = [0u8; 65536];
     let mut received = [0u8; 65536];
-    let n = load::load(rt, program, first, rest, &mut sent)?;
-    let m = load::load(rt, program, second, rest, &mut received)?;
+    let n = load::load(rt, program, first, &mut sent)?;
+    let m = load::load(rt, program, second, &mut received)?;
     show(program, &sent[..n], &received[..m])
 }
 

@@ -5,8 +5,7 @@ mod table;
 
 use frames::frame;
 use printing::{Output, Terminal};
-use reading::arguments::Kind;
-use reading::{Failure, Mode, Program, Recording, Source, Step, arguments, asked};
+use reading::{Failure, Mode, Program, Recording, Step, Visit, asked};
 use std::env::Env;
 use std::fs::{File, Files};
 use table::Tally;
@@ -26,21 +25,15 @@ The exit status is always 0. If something failed, the last line on standard erro
 ";
 
 fn main(rt: HostRuntime) {
-    let terminal = Terminal::new(rt.stdout(), rt.stderr());
-    let program = Program::new("rtcm_observations", rt.stdin(), terminal);
-    if run(&rt, &program).is_err() {
-        program.failed();
-    }
+    let program = Program::new("rtcm_observations", rt.stdin(), rt.stdout(), rt.stderr());
+    program.end(run(&rt, &program));
 }
 
 // Does what the arguments ask.
 fn run(rt: &(impl Env + Files<File = File>), program: &Program) -> Result<(), Failure> {
     let asked = asked::all(rt);
-    if asked.help {
-        return program.tell(HELP);
-    }
-    if asked.version {
-        return program.version();
+    if let Some(told) = program.about(asked, HELP) {
+        return told;
     }
     if let Some(i) = asked.unknown {
         return Err(program.unknown(rt, i));
@@ -48,60 +41,30 @@ fn run(rt: &(impl Env + Files<File = File>), program: &Program) -> Result<(), Fa
     if asked.first.is_none() {
         return Err(program.no_file());
     }
-    show_all(rt, program, asked.rest)
+    let mut tables = Tables {
+        out: program.output(),
+    };
+    program.each(rt, asked.rest, Mode::Rtcm, &mut tables)
 }
 
-// Shows what the arguments name, one after another.
-fn show_all(
-    rt: &(impl Env + Files<File = File>),
-    program: &Program,
-    rest: Option<usize>,
-) -> Result<(), Failure> {
-    let mut out = program.output();
-    let mut all = Ok(());
-    for i in 1..arguments::count(rt) {
-        match show_argument(rt, program, i, rest, &mut out) {
-            Ok(()) => {}
-            Err(Failure::Unwritten) => return Err(Failure::Unwritten),
-            Err(failure) => all = Err(failure),
+// Shows the tables of each recording.
+#[derive(Drop)]
+struct Tables {
+    out: Output<Terminal>,
+}
+
+impl Visit for Tables {
+    // Writes what stands behind the last message too.
+    fn visit(&mut self, recording: &mut Recording) -> Result<(), Failure> {
+        let mut tally = Tally::none();
+        let end = show(recording, &mut tally, &mut self.out);
+        if let Err(Failure::Unwritten) = end {
+            return end;
         }
+        table::closing(&mut self.out, recording.account(), tally);
+        self.out.flush()?;
+        end
     }
-    all
-}
-
-// Shows what argument i names, if it names a recording.
-fn show_argument(
-    rt: &(impl Env + Files<File = File>),
-    program: &Program,
-    i: usize,
-    rest: Option<usize>,
-    out: &mut Output<Terminal>,
-) -> Result<(), Failure> {
-    let word = program.word(rt, i)?;
-    let path = word.bytes();
-    match asked::kind_of(path, i, rest) {
-        Kind::File => show_open(program, program.open(rt, path)?, path, out),
-        Kind::Input => show_open(program, program.input(), b"standard input", out),
-        _ => Ok(()),
-    }
-}
-
-// Shows an open recording, and writes what stands behind its last message.
-fn show_open(
-    program: &Program,
-    source: Source,
-    name: &[u8],
-    out: &mut Output<Terminal>,
-) -> Result<(), Failure> {
-    let mut recording = Recording::new(source, name, program.terminal(), Mode::Rtcm);
-    let mut tally = Tally::none();
-    let end = show(&mut recording, &mut tally, out);
-    if let Err(Failure::Unwritten) = end {
-        return end;
-    }
-    table::closing(out, recording.account(), tally);
-    out.flush()?;
-    end
 }
 
 // Goes through the frames; the table of a message is written when its frame has arrived. A recording in which nothing was is

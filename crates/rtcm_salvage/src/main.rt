@@ -7,8 +7,6 @@ mod options;
 mod salvage;
 
 use list::Log;
-use options::Named;
-use printing::Terminal;
 use reading::arguments::Word;
 use reading::{Failure, Program, arguments};
 use std::env::Env;
@@ -16,27 +14,21 @@ use std::fs::{File, Files};
 use std::io;
 
 fn main(rt: HostRuntime) {
-    let terminal = Terminal::new(rt.stdout(), rt.stderr());
-    let program = Program::new("rtcm_salvage", rt.stdin(), terminal);
-    if run(&rt, &program).is_err() {
-        program.failed();
-    }
+    let program = Program::new("rtcm_salvage", rt.stdin(), rt.stdout(), rt.stderr());
+    program.end(run(&rt, &program));
 }
 
 // Does what the arguments ask.
 fn run(rt: &(impl Env + Files<File = File>), program: &Program) -> Result<(), Failure> {
     let asked = options::all(rt);
-    if asked.help {
-        return program.tell(options::HELP);
+    if let Some(told) = program.about(asked.words, options::HELP) {
+        return told;
     }
-    if asked.version {
-        return program.version();
-    }
-    if let Some(i) = asked.wrong {
+    if let Some(i) = asked.wrong() {
         return Err(options::wrong(rt, program, i));
     }
-    let named = asked.named.ok_or_else(|| program.no_file())?;
-    if asked.is_more {
+    let named = asked.words.first.ok_or_else(|| program.no_file())?;
+    if asked.words.second.is_some() {
         program.say(": name one recording\n");
         return Err(Failure::Refused);
     }
@@ -68,20 +60,15 @@ fn created(files: &impl Files<File = File>, path: &[u8]) -> io::Result<File> {
     File::create(files, arguments::text_of(path)?)
 }
 
-// Salvages the recording that is named.
+// Salvages the recording that argument i names.
 fn salvage_named(
     rt: &(impl Env + Files<File = File>),
     program: &Program,
-    named: Named,
+    i: usize,
     log: Log,
     salvaged: bool,
 ) -> Result<(), Failure> {
-    match named {
-        Named::Input => salvage::run(program, program.input(), b"standard input", log, salvaged),
-        Named::File(i) => {
-            let word = Word::or_empty(rt, i);
-            let path = word.bytes();
-            salvage::run(program, program.open(rt, path)?, path, log, salvaged)
-        }
-    }
+    let word = Word::or_empty(rt, i);
+    let (source, name) = program.source(rt, word.bytes())?;
+    salvage::run(program, source, name, log, salvaged)
 }

@@ -1,56 +1,35 @@
 // What the arguments ask for, and what is said to the user.
 use reading::arguments::{Kind, Word};
-use reading::{Failure, Program, arguments};
+use reading::{Failure, Program, arguments, asked};
 use std::env::Env;
 
-// The recording that is named: standard input, or the file that is the word of an argument.
-#[derive(Clone, Copy)]
-pub enum Named {
-    Input,
-    File(usize),
-}
-
-// What all the arguments ask for: `list` is the place of the list's name, `wrong` that of the first option that is not known
-// or has no name behind it, `named` the first recording, and `is_more` whether there are more.
+// What all the arguments ask for: what the words ask of any program, whether only the closing frames are written, the place of
+// the list's name, and that of a `--list` whose name is the next word.
 #[derive(Clone, Copy)]
 pub struct Asked {
-    pub help: bool,
-    pub version: bool,
+    pub words: asked::Asked,
     pub salvaged: bool,
     pub list: Option<usize>,
-    pub wrong: Option<usize>,
-    pub named: Option<Named>,
-    pub is_more: bool,
-    // Whether `--` was there, and the place of a `--list` whose name is the next word.
-    is_rest: bool,
     unnamed: Option<usize>,
 }
 
 pub fn all(env: &impl Env) -> Asked {
-    let mut asked = Asked::nothing();
+    let mut asked = Asked {
+        words: asked::Asked::nothing(),
+        salvaged: false,
+        list: None,
+        unnamed: None,
+    };
     for i in 1..arguments::count(env) {
         asked = asked.with(Word::or_empty(env, i).bytes(), i);
     }
-    Asked {
-        wrong: asked.wrong.or(asked.unnamed),
-        ..asked
-    }
+    asked
 }
 
 impl Asked {
-    // What no word at all asks for.
-    fn nothing() -> Asked {
-        Asked {
-            help: false,
-            version: false,
-            salvaged: false,
-            list: None,
-            wrong: None,
-            named: None,
-            is_more: false,
-            is_rest: false,
-            unnamed: None,
-        }
+    // The place of the first option that is not known, or else of one that has no name behind it.
+    pub fn wrong(self) -> Option<usize> {
+        self.words.unknown.or(self.unnamed)
     }
 
     // What is asked for with the word of argument i: behind `--list` it is the list's name, whatever it is.
@@ -62,29 +41,18 @@ impl Asked {
                 ..self
             };
         }
-        match self.kind_of(word) {
-            Kind::Help => Asked { help: true, ..self },
-            Kind::Version => Asked {
-                version: true,
-                ..self
-            },
+        match self.kind_of(word, i) {
             Kind::Own => self.with_own(word, i),
-            Kind::Rest => Asked {
-                is_rest: true,
+            kind => Asked {
+                words: self.words.noted(kind, i),
                 ..self
             },
-            Kind::Unknown => Asked {
-                wrong: self.wrong.or(Some(i)),
-                ..self
-            },
-            Kind::Input => self.with_recording(Named::Input),
-            Kind::File => self.with_recording(Named::File(i)),
         }
     }
 
-    // What a word is. The program's own options are --salvaged and --list.
-    fn kind_of(self, word: &[u8]) -> Kind {
-        if self.is_rest {
+    // What the word of argument i is. The program's own options are --salvaged and --list.
+    fn kind_of(self, word: &[u8], i: usize) -> Kind {
+        if asked::is_behind(i, self.words.rest) {
             return arguments::operand_of(word);
         }
         match word {
@@ -104,20 +72,6 @@ impl Asked {
                 salvaged: true,
                 ..self
             },
-        }
-    }
-
-    // A recording is named.
-    fn with_recording(self, named: Named) -> Asked {
-        if self.named.is_some() {
-            return Asked {
-                is_more: true,
-                ..self
-            };
-        }
-        Asked {
-            named: Some(named),
-            ..self
         }
     }
 }

@@ -8,97 +8,77 @@ mod table;
 
 use options::Ways;
 use printing::{Output, Terminal};
-use reading::arguments::Kind;
+use reading::arguments::{Kind, Word};
 use reading::skips::Skips;
-use reading::{Before, Failure, Program, Recording, Source, arguments};
+use reading::{Before, Failure, Program, Recording, Visit};
 use std::env::Env;
 use std::fs::{File, Files};
 use table::Numbers;
 
 fn main(rt: HostRuntime) {
-    let terminal = Terminal::new(rt.stdout(), rt.stderr());
-    let program = Program::new("rtcm_scan", rt.stdin(), terminal);
-    if run(&rt, &program).is_err() {
-        program.failed();
-    }
+    let program = Program::new("rtcm_scan", rt.stdin(), rt.stdout(), rt.stderr());
+    program.end(run(&rt, &program));
 }
 
 // Does what the arguments ask.
 fn run(rt: &(impl Env + Files<File = File>), program: &Program) -> Result<(), Failure> {
     let asked = options::all(rt);
-    if asked.help {
-        return program.tell(options::HELP);
+    if let Some(told) = program.about(asked.words, options::HELP) {
+        return told;
     }
-    if asked.version {
-        return program.version();
-    }
-    if let Some(i) = asked.unknown {
+    if let Some(i) = asked.words.unknown {
         return Err(program.unknown(rt, i));
     }
-    if asked.file.is_none() {
+    if asked.words.first.is_none() {
         return Err(program.no_file());
     }
-    scan_all(rt, program, asked.ways, asked.rest)
+    let mut rows = Rows {
+        ways: asked.ways,
+        out: program.output(),
+    };
+    program.each(rt, asked.words.rest, asked.ways.mode, &mut rows)
 }
 
-// Scans what the arguments name, one after another.
-fn scan_all(
-    rt: &(impl Env + Files<File = File>),
-    program: &Program,
+// Shows the rows of each recording, and its closing table.
+#[derive(Drop)]
+struct Rows {
     ways: Ways,
-    rest: Option<usize>,
-) -> Result<(), Failure> {
-    let mut out = program.output();
-    let mut all = Ok(());
-    for i in 1..arguments::count(rt) {
-        match scan_argument(rt, program, i, ways, rest, &mut out) {
-            Ok(()) => {}
-            Err(Failure::Unwritten) => return Err(Failure::Unwritten),
-            Err(failure) => all = Err(failure),
+    out: Output<Terminal>,
+}
+
+impl Visit for Rows {
+    fn argument(
+        &mut self,
+        program: &Program,
+        env: &impl Env,
+        i: usize,
+        rest: Option<usize>,
+    ) -> Result<(Word, Kind), Failure> {
+        let word = program.word(env, i)?;
+        let kind = options::kind_of(word.bytes(), i, rest);
+        Ok((word, kind))
+    }
+
+    fn visit(&mut self, recording: &mut Recording) -> Result<(), Failure> {
+        let mut skips = Skips::none();
+        let mut numbers = Numbers::none();
+        let end = scan(
+            recording,
+            self.ways,
+            &mut skips,
+            &mut numbers,
+            &mut self.out,
+        );
+        if let Err(Failure::Unwritten) = end {
+            return end;
         }
+        let account = recording.account();
+        if account.bytes != 0 {
+            table::closing(&mut self.out, account, skips, &numbers);
+        }
+        self.out.flush()?;
+        end
     }
-    all
-}
-
-// Scans what argument i names.
-fn scan_argument(
-    rt: &(impl Env + Files<File = File>),
-    program: &Program,
-    i: usize,
-    ways: Ways,
-    rest: Option<usize>,
-    out: &mut Output<Terminal>,
-) -> Result<(), Failure> {
-    let word = program.word(rt, i)?;
-    let path = word.bytes();
-    match options::kind_of(path, i, rest) {
-        Kind::File => scan_open(program, program.open(rt, path)?, path, ways, out),
-        Kind::Input => scan_open(program, program.input(), b"standard input", ways, out),
-        _ => Ok(()),
-    }
-}
-
-// Scans an open recording, and writes its rows and its closing table.
-fn scan_open(
-    program: &Program,
-    source: Source,
-    name: &[u8],
-    ways: Ways,
-    out: &mut Output<Terminal>,
-) -> Result<(), Failure> {
-    let mut recording = Recording::new(source, name, program.terminal(), ways.mode);
-    let mut skips = Skips::none();
-    let mut numbers = Numbers::none();
-    let end = scan(&mut recording, ways, &mut skips, &mut numbers, out);
-    if let Err(Failure::Unwritten) = end {
-        return end;
-    }
-    let account = recording.account();
-    if account.bytes != 0 {
-        table::closing(out, account, skips, &numbers);
-    }
-    out.flush()?;
-    end
 }
 
 // Goes through the frames, each row being written when its frame has arrived. The account at the end is right.

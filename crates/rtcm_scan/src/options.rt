@@ -10,29 +10,20 @@ pub struct Ways {
     pub mode: Mode,
 }
 
-// What all the arguments ask for: `unknown` is the place of the first option that is not known, `rest` that of `--`, and
-// `file` that of a recording.
+// What all the arguments ask for: what the words ask of any program, and the ways.
 #[derive(Clone, Copy)]
 pub struct Asked {
-    pub help: bool,
-    pub version: bool,
+    pub words: asked::Asked,
     pub ways: Ways,
-    pub unknown: Option<usize>,
-    pub rest: Option<usize>,
-    pub file: Option<usize>,
 }
 
 pub fn all(env: &impl Env) -> Asked {
     let mut asked = Asked {
-        help: false,
-        version: false,
+        words: asked::Asked::nothing(),
         ways: Ways {
             quiet: false,
             mode: Mode::Rtcm,
         },
-        unknown: None,
-        rest: None,
-        file: None,
     };
     for i in 1..arguments::count(env) {
         asked = with(asked, Word::or_empty(env, i).bytes(), i);
@@ -42,29 +33,13 @@ pub fn all(env: &impl Env) -> Asked {
 
 // What is asked for with argument i.
 fn with(asked: Asked, word: &[u8], i: usize) -> Asked {
-    match kind_of(word, i, asked.rest) {
-        Kind::Help => Asked {
-            help: true,
-            ..asked
-        },
-        Kind::Version => Asked {
-            version: true,
-            ..asked
-        },
+    match kind_of(word, i, asked.words.rest) {
         Kind::Own => Asked {
             ways: ways_with(asked.ways, word),
             ..asked
         },
-        Kind::Rest => Asked {
-            rest: Some(i),
-            ..asked
-        },
-        Kind::Unknown => Asked {
-            unknown: asked.unknown.or(Some(i)),
-            ..asked
-        },
-        Kind::Input | Kind::File => Asked {
-            file: Some(i),
+        kind => Asked {
+            words: asked.words.noted(kind, i),
             ..asked
         },
     }

@@ -24,27 +24,21 @@ The exit status is always 0. If something failed, the last line on standard erro
 ";
 
 fn main(rt: HostRuntime) {
-    let terminal = Terminal::new(rt.stdout(), rt.stderr());
-    let program = Program::new("rtcm_why", rt.stdin(), terminal);
-    if run(&rt, &program).is_err() {
-        program.failed();
-    }
+    let program = Program::new("rtcm_why", rt.stdin(), rt.stdout(), rt.stderr());
+    program.end(run(&rt, &program));
 }
 
 // Does what the arguments ask.
 fn run(rt: &(impl Env + Files<File = File>), program: &Program) -> Result<(), Failure> {
     let asked = asked::all(rt);
-    if asked.help {
-        return program.tell(HELP);
-    }
-    if asked.version {
-        return program.version();
+    if let Some(told) = program.about(asked, HELP) {
+        return told;
     }
     if let Some(i) = asked.unknown {
         return Err(program.unknown(rt, i));
     }
     match (asked.first, asked.second, asked.third) {
-        (Some(file), Some(word), None) => answer(rt, program, file, word, asked.rest),
+        (Some(file), Some(word), None) => answer(rt, program, file, word),
         _ => Err(misnamed(program)),
     }
 }
@@ -59,13 +53,12 @@ fn answer(
     program: &Program,
     file: usize,
     word: usize,
-    rest: Option<usize>,
 ) -> Result<(), Failure> {
     let Some(place) = digits(Word::or_empty(rt, word).bytes()) else {
         return Err(misnamed(program));
     };
     let mut recording = [0u8; 65536];
-    let n = load::load(rt, program, file, rest, &mut recording)?;
+    let n = load::load(rt, program, file, &mut recording)?;
     match fate::of(&recording[..n], place) {
         Ok(fate) => show(program, fate),
         Err(_) => Err(refused(program)),
