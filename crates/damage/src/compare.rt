@@ -31,29 +31,40 @@ pub fn compare(sent: &[u8], received: &[u8]) -> Result<Run, Refusal>
     if sent.len() != received.len() {
         return Err(Refusal::Size);
     }
-    match (first(sent, received), last(sent, received)) {
-        (Some(start), Some(last)) => Ok(Run {
-            start,
-            count: last + 1 - start,
-        }),
-        _ => Ok(Run { start: 0, count: 0 }),
-    }
+    let Some(start) = first(sent, received) else {
+        return Ok(Run { start: 0, count: 0 });
+    };
+    let Some(last) = last(sent, received) else {
+        return Ok(Run { start: 0, count: 0 });
+    };
+    Ok(Run {
+        start,
+        count: last + 1 - start,
+    })
 }
 
-// The first place at which two areas of one length differ.
+// The first place at which two areas of one length differ. By place: `position` of a zip, which was tried, takes longer.
 fn first(sent: &[u8], received: &[u8]) -> Option<usize>
     requires { length sent.now ≡ length received.now }
     ensures { MatchOption result ((k : ℕ) → k < length received.now → slice_index sent.now k ≡ slice_index received.now k) (λ i. (i < length received.now) × (slice_index sent.now i ≢ slice_index received.now i) × ((k : ℕ) → k < i → slice_index sent.now k ≡ slice_index received.now k)) }
 {
-    sent.iter().zip(received).position(|(s, r)| s != r)
+    for i in 0..sent.len() {
+        if sent[i] != received[i] {
+            return Some(i);
+        }
+    }
+    None
 }
 
-// The last one. By place: `rposition` of a zip, which was tried, says nothing of the place that it finds.
+// The last one. By place, counted from the end: `rposition` of a zip, which was tried, says nothing of the place that it finds,
+// and a `for` over the places turned round takes longer.
 fn last(sent: &[u8], received: &[u8]) -> Option<usize>
     requires { length sent.now ≡ length received.now }
     ensures { MatchOption result ((k : ℕ) → k < length received.now → slice_index sent.now k ≡ slice_index received.now k) (λ i. (i < length received.now) × (slice_index sent.now i ≢ slice_index received.now i) × ((k : ℕ) → i < k → k < length received.now → slice_index sent.now k ≡ slice_index received.now k)) }
 {
-    for i in (0..sent.len()).rev() {
+    let n = sent.len();
+    for k in 0..n {
+        let i = n - 1 - k;
         if sent[i] != received[i] {
             return Some(i);
         }

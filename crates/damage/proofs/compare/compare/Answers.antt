@@ -5,11 +5,14 @@ use Rattle.damage.proofs.compare.compare.Goals as goal
 pub returns-then-sent-received : goal.returns-then-sent-received
 returns-then-sent-received c = unequal _ _ c.if-sent-received.true
 
-pub returns-in-Some-Some : goal.returns-in-Some-Some
-returns-in-Some-Some c =
-    let x = c.in-Some-Some.ensures in
-    let y = c.in-Some-Some.ensures' in
-    both_differ c.args.sent.now c.args.received.now _ _ y.0 y.1 y.2 x.1 x.2 c.if-sent-received.false
+pub returns-in_default : goal.returns-in_default
+returns-in_default c = none_differs c.args.sent.now c.args.received.now c.if-sent-received.false c.in_default.ensures
 
-pub returns-in_default-2 : goal.returns-in_default-2
-returns-in_default-2 c = none_differs c.args.sent.now c.args.received.now c.if-sent-received.false (rw c.in_default.is-0 at c.first.ensures)
+pub returns-in_default-last : goal.returns-in_default-last
+returns-in_default-last c = none_differs c.args.sent.now c.args.received.now c.if-sent-received.false c.in_default-last.ensures
+
+pub returns : goal.returns
+returns c =
+    let x = c.in-Some.ensures in
+    let y = c.in-Some-last.ensures in
+    both_differ c.args.sent.now c.args.received.now _ _ y.0 y.1 y.2 x.1 x.2 c.if-sent-received.false

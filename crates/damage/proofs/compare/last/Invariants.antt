@@ -1,6 +1,6 @@
--- From place i on, all bytes are equal. Assumes nothing.
-use Rattle.std.proofs.Common.{◌≡◌, ◌≤◌, ◌<◌, ℕ, length, get_or}
+-- The last k bytes are equal. Assumes nothing.
+use Rattle.std.proofs.Common.{◌≡◌, ◌≤◌, ◌<◌, ◌-◌, ℕ, length, get_or}
 use Rattle.damage.proofs.compare.last.Given as goal
 
-abbrev pub invariant-loop-i : goal.invariant-loop-i
-invariant-loop-i l = (k : ℕ) → l.i ≤ k → k < length l.received → get_or l.sent k 0 ≡ get_or l.received k 0
+abbrev pub invariant-loop-k : goal.invariant-loop-k
+invariant-loop-k l = (j : ℕ) → length l.received - l.k ≤ j → j < length l.received → get_or l.sent j 0 ≡ get_or l.received j 0
