@@ -1,4 +1,5 @@
-// Copies of bytes. Those of crate frames stay within it, since what is public asks nothing of its callers.
+// Copies of bytes. Those of crate frames stay within it, since what is public asks nothing of its callers. By place: the
+// library's copies, which were tried, are calls of memcpy and memmove, for which the archive would need a C library.
 ghost use Rattle.std.specs.Prelude.{◌≡◌, ◌++◌, ◌+◌, ◌-◌, ◌^◌, ◌≤◌, ◌<◌, length, take, drop};
 ghost use Rattle.bits.specs.Onto.{onto, over};
 
@@ -27,7 +28,9 @@ fn shift(held: &mut [u8], i: usize, n: usize)
     requires { i + n ≤ length held.old }
     ensures { held.new ≡ take n (drop i held.old) ++ drop n held.old }
 {
-    held.copy_within(i..i + n, 0);
+    for k in 0..n {
+        held[k] = held[i + k];
+    }
 }
 
 // Writes the part over the output from byte i on.
@@ -35,5 +38,7 @@ pub(crate) fn put_at(part: &[u8], out: &mut [u8], i: usize)
     requires { i + length part.now ≤ length out.old }
     ensures { out.new ≡ over i part.now out.old }
 {
-    out[i..i + part.len()].copy_from_slice(part);
+    for k in 0..part.len() {
+        out[i + k] = part[k];
+    }
 }

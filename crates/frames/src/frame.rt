@@ -128,10 +128,28 @@ fn put_three(out: &mut [u8], i: usize, v: u32)
     out[i + 2] = (v % 0x100) as u8;
 }
 
-// Writes the part over the output from byte i on.
+// Writes the part over the output from byte i on: 32 bytes at a time, and the last 32 once more, so that no few are left
+// over. By place: the library's copy, which was tried, is a call of memcpy, for which the archive would need a C library.
 pub(crate) fn put_at(part: &[u8], out: &mut [u8], i: usize)
     requires { i + length part.now ≤ length out.old }
     ensures { out.new ≡ over i part.now out.old }
 {
-    out[i..i + part.len()].copy_from_slice(part);
+    let n = part.len();
+    if n < 32 {
+        put_each(part, out, i);
+        return;
+    }
+    let last = n - 32;
+    put_each(&part[0..n / 32 * 32], out, i);
+    put_each(&part[last..n], out, i + last);
+}
+
+// The same byte by byte.
+fn put_each(part: &[u8], out: &mut [u8], i: usize)
+    requires { i + length part.now ≤ length out.old }
+    ensures { out.new ≡ over i part.now out.old }
+{
+    for k in 0..part.len() {
+        out[i + k] = part[k];
+    }
 }

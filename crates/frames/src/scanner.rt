@@ -219,10 +219,12 @@ fn slide(held: &mut [u8], count: usize, piece: &[u8], i: usize) -> usize
     n
 }
 
-// Moves n bytes from place i on to the front.
+// Moves n bytes from place i on to the front. By place: `copy_within`, which was tried, is a call of memmove.
 pub(crate) fn shift(held: &mut [u8], i: usize, n: usize)
     requires { i + n ≤ length held.old }
     ensures { held.new ≡ take n (drop i held.old) ++ drop n held.old }
 {
-    held.copy_within(i..i + n, 0);
+    for k in 0..n {
+        held[k] = held[i + k];
+    }
 }
