@@ -13,12 +13,12 @@ use Rattle.std.specs.Prelude.{not, Option, Some, None, MatchOption, position, Re
 use Rattle.bits.specs.Told.{Accepted, Refused, range, size, full, absent}
 use Rattle.bits.specs.Refusals.{told, number_of, carried_by}
 use Rattle.bits.specs.declared.refusal.Refusal.{Refusal}
-use Rattle.bits.specs.declared.refusal.Refusal.TheVariants.{Size, Range}
 use Rattle.std.specs.Option.{option_or}
 use Rattle.bits.specs.Outcome.{Outcome, outcome}
-use Rattle.cache.specs.Steps.{admitted, as_one}
+use Rattle.cache.specs.Steps.{as_one}
+use Rattle.cache.specs.Answers.{told_admitted}
 use Rattle.cache.proofs.PlaceLaws.{Placed, placed}
-use Rattle.cache.specs.Cache.{Key, key, same, Value, value, fits_value, free, key_in, widened, value_in, has_key, entry_of, blank, first, find, Call, fits, Store, Remove, Lookup, store_at, remove_at, act, step, Answer}
+use Rattle.cache.specs.Cache.{Key, key, same, Value, value, fits_value, free, key_in, widened, value_in, has_key, entry_of, blank, first, find, Call, fits, Store, Remove, Lookup, store_at, remove_at, act, admitted, step, Answer}
 
 pub both : (a b : Bool) → a && b ≡ true → (a ≡ true) × (b ≡ true)
 both true b e = (refl, e)
@@ -124,24 +124,24 @@ module _ (c : Call) (l : List (List ℕ)) (b : Bool) (fit : b ≡ fits c) where
   abbrev refusal : Refusal → Outcome (M.Option Value) (List (List ℕ))
   refusal x = outcome (Refused (number_of x) (carried_by x)) l
 
-  refused_so : (x : Refusal) → Err x ≡ admitted (length l) b → refusal x ≡ step c l
+  refused_so : (x : Refusal) → told_admitted (Err x) ≡ admitted (length l) b → refusal x ≡ step c l
   unfolding step
   refused_so x e = subst (λ (d : Bool). refusal x ≡ cond (ltb 512 (length l)) (outcome size l) (cond (not d) (outcome (range 0) l) (act c l))) fit (go (ltb 512 (length l)) b e)
     where
-      go : (a d : Bool) → ◌≡◌ {A = Result (Unit {0}) Refusal} (Err x) (cond a (Err Size) (cond (not d) (Err (Range 0)) (Ok (tt {0}))))
+      go : (a d : Bool) → told_admitted (Err x) ≡ cond a size (cond (not d) (range 0) (Accepted none))
           → refusal x ≡ cond a (outcome size l) (cond (not d) (outcome (range 0) l) (act c l))
-      go true d p = let q : x ≡ Size = cc in ap refusal q
-      go false false p = let q : x ≡ Range 0 = cc in ap refusal q
+      go true d p = ap (λ (a : Answer). outcome a l) p
+      go false false p = ap (λ (a : Answer). outcome a l) p
       go false true p = cc
 
-  pub refused : {T : Type 0} (told_of : T → M.Option Value) (r : Result T Refusal) (x : Refusal) → Err x ≡ admitted (length l) b → IsErrAnd r (λ e. e ≡ x) → outcome (told told_of r) l ≡ step c l
+  pub refused : {T : Type 0} (told_of : T → M.Option Value) (r : Result T Refusal) (x : Refusal) → told_admitted (Err x) ≡ admitted (length l) b → IsErrAnd r (λ e. e ≡ x) → outcome (told told_of r) l ≡ step c l
   refused told_of r x e p = ap (λ (a : Answer). outcome a l) (handed_on told_of r x p) ∙ refused_so x e
 
-  pub taken : (u : Unit {0}) → Ok u ≡ admitted (length l) b → (fits c ≡ true) × (act c l ≡ step c l)
+  pub taken : (u : Unit {0}) → told_admitted (Ok u) ≡ admitted (length l) b → (fits c ≡ true) × (act c l ≡ step c l)
   unfolding step
   taken u e = subst (λ (d : Bool). (d ≡ true) × (act c l ≡ cond (ltb 512 (length l)) (outcome size l) (cond (not d) (outcome (range 0) l) (act c l)))) fit (go (ltb 512 (length l)) b e)
     where
-      go : (a d : Bool) → ◌≡◌ {A = Result (Unit {0}) Refusal} (Ok u) (cond a (Err Size) (cond (not d) (Err (Range 0)) (Ok (tt {0}))))
+      go : (a d : Bool) → told_admitted (Ok u) ≡ cond a size (cond (not d) (range 0) (Accepted none))
           → (d ≡ true) × (act c l ≡ cond a (outcome size l) (cond (not d) (outcome (range 0) l) (act c l)))
       go true d p = absurd (cc)
       go false false p = absurd (cc)

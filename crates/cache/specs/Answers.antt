@@ -11,6 +11,10 @@ use Rattle.cache.specs.declared.cache.Value as code_value
 abbrev pub key_of : code.Key → Key
 key_of k = key k.provider k.solution k.satellite k.signal
 
+-- admitting: nothing, or Size, Range with 0
+abbrev pub told_admitted : Result Unit Refusal → Answer
+told_admitted = told (λ done. none)
+
 -- storing: nothing, or Size, Range with 0, Full
 abbrev pub told_stored : Result Unit Refusal → Answer
 told_stored = told (λ done. none)

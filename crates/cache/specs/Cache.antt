@@ -111,6 +111,10 @@ act (Store k v) l = store_at (first (has_key k) l) (first free l) (entry_of k v)
 act (Remove k) l = remove_at (first (has_key k) l) blank l
 act (Lookup k) l = outcome (tell (find k l)) l
 
+-- what every call refuses first: over 512 entries, then a number outside its field
+abbrev pub admitted : ℕ → Bool → Answer
+admitted n fits = cond (ltb 512 n) size (cond (not fits) (range 0) (Accepted none))
+
 -- a call on a list of at most 512 entries, else Size; then Range with 0 for a number outside its field; then what it asks for
 unfoldable pub step : Call → List (List ℕ) → Outcome (Option Value) (List (List ℕ))
 step c l = cond (ltb 512 (length l)) (outcome size l) (cond (not (fits c)) (outcome (range 0) l) (act c l))

@@ -3,9 +3,9 @@
 ghost use Rattle.std.specs.Prelude.{◌≡◌, true, ◌%◌, ◌^◌, ◌<◌, position};
 ghost use Rattle.std.specs.Option.{option_or};
 ghost use Rattle.bits.specs.Outcome.{outcome};
-ghost use Rattle.cache.specs.Cache.{value, key_in, value_in, free, has_key, widened, entry_of, first, fits_key, fits_value, fits, Store, Remove, Lookup, step};
-ghost use Rattle.cache.specs.Steps.{admitted, as_one};
-ghost use Rattle.cache.specs.Answers.{key_of, told_stored, told_removed, told_found};
+ghost use Rattle.cache.specs.Cache.{value, key_in, value_in, free, has_key, widened, entry_of, first, fits_key, fits_value, fits, Store, Remove, Lookup, admitted, step};
+ghost use Rattle.cache.specs.Steps.{as_one};
+ghost use Rattle.cache.specs.Answers.{key_of, told_admitted, told_stored, told_removed, told_found};
 
 use bits::refusal::Refusal;
 
@@ -73,7 +73,7 @@ fn value_in(e: [u16; 7]) -> Value
 
 // What every call refuses first: more than 512 entries, then a number outside its field.
 pub fn admit(count: usize, fits: bool) -> Result<(), Refusal>
-    ensures { result ≡ admitted count fits }
+    ensures { told_admitted result ≡ admitted count fits }
 {
     if 512 < count {
         return Err(Refusal::Size);

@@ -10,22 +10,22 @@ use Rattle.bits.specs.Told.{Accepted, full, absent}
 use Rattle.bits.specs.Outcome.{outcome}
 use Rattle.bits.specs.Refusals.{told}
 use Rattle.bits.specs.declared.refusal.Refusal.{Refusal}
-use Rattle.cache.specs.Cache.{Value, value_in, free, has_key, entry_of, blank, Call, fits, Store, Remove, Lookup, act, step}
-use Rattle.cache.specs.Steps.{admitted}
+use Rattle.cache.specs.Cache.{Value, value_in, free, has_key, entry_of, blank, Answer, Call, fits, Store, Remove, Lookup, act, admitted, step}
+use Rattle.cache.specs.Answers.{told_admitted}
 use Rattle.cache.proofs.PlaceLaws.{placed, placed_map}
 use Rattle.cache.proofs.CodeLaws as C
 use Rattle.entries.specs.Entries.{numbers_of, key_of, value_of}
 use Rattle.entries.specs.declared.Entry.{Entry}
 
 module _ (c : Call) (s : List Entry) (b : Bool) (fit : b ≡ fits c) where
-  shorter : {x : Result (Unit {0}) Refusal} → x ≡ admitted (length s) b → x ≡ admitted (length (map numbers_of s)) b
+  shorter : {x : Answer} → x ≡ admitted (length s) b → x ≡ admitted (length (map numbers_of s)) b
   shorter e = e ∙ ap (λ (n : ℕ). admitted n b) (sym (length-map s numbers_of))
 
-  pub refused : {T : Type 0} (told_of : T → M.Option Value) (r : Result T Refusal) (x : Refusal) → Err x ≡ admitted (length s) b → IsErrAnd r (λ e. e ≡ x)
+  pub refused : {T : Type 0} (told_of : T → M.Option Value) (r : Result T Refusal) (x : Refusal) → told_admitted (Err x) ≡ admitted (length s) b → IsErrAnd r (λ e. e ≡ x)
       → outcome (told told_of r) (map numbers_of s) ≡ step c (map numbers_of s)
   refused told_of r x e p = C.refused c (map numbers_of s) b fit told_of r x (shorter e) p
 
-  pub does : (u : Unit {0}) → Ok u ≡ admitted (length s) b → act c (map numbers_of s) ≡ step c (map numbers_of s)
+  pub does : (u : Unit {0}) → told_admitted (Ok u) ≡ admitted (length s) b → act c (map numbers_of s) ≡ step c (map numbers_of s)
   does u e = (C.taken c (map numbers_of s) b fit u (shorter e)).1
 
 -- the entry e, and the list s

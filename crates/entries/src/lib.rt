@@ -1,11 +1,11 @@
 // The bias cache over a lent list of entry structs. What it does is by value, and asks crate cache.
 #![tactic(auto)]
 
-ghost use Rattle.std.specs.Prelude.{◌≡◌, ◌&&◌, map, position};
+ghost use Rattle.std.specs.Prelude.{◌≡◌, ◌&&◌, length, map, position};
 ghost use Rattle.std.specs.Option.{option_or};
 ghost use Rattle.bits.specs.Outcome.{outcome};
-ghost use Rattle.cache.specs.Cache.{value, blank, entry_of, free, has_key, fits_key, fits_value, fits, Store, Remove, Lookup, step};
-ghost use Rattle.cache.specs.Answers.{key_of as cache_key_of, told_found};
+ghost use Rattle.cache.specs.Cache.{value, blank, entry_of, free, has_key, fits_key, fits_value, fits, Store, Remove, Lookup, admitted, step};
+ghost use Rattle.cache.specs.Answers.{key_of as cache_key_of, told_admitted, told_found};
 ghost use Rattle.entries.specs.Entries.{numbers_of, key_of, value_of, told_answer};
 
 use bits::refusal::Refusal;
@@ -29,7 +29,7 @@ pub struct Entry {
 pub fn store(s: &mut [Entry], e: Entry) -> Result<(), Refusal>
     ensures { outcome (told_answer result) (map numbers_of s.new) ≡ step (Store (key_of e) (value_of e)) (map numbers_of s.old) }
 {
-    cache::cache::admit(s.len(), fits(e))?;
+    admit(s, fits(e))?;
     let Some(i) = place_for(s, e) else {
         return Err(Refusal::Full);
     };
@@ -41,7 +41,7 @@ pub fn store(s: &mut [Entry], e: Entry) -> Result<(), Refusal>
 pub fn remove(s: &mut [Entry], e: Entry) -> Result<(), Refusal>
     ensures { outcome (told_answer result) (map numbers_of s.new) ≡ step (Remove (key_of e)) (map numbers_of s.old) }
 {
-    cache::cache::admit(s.len(), cache::cache::fits_key(key_of(e)))?;
+    admit(s, cache::cache::fits_key(key_of(e)))?;
     let Some(i) = place(s, e) else {
         return Err(Refusal::Absent);
     };
@@ -53,11 +53,18 @@ pub fn remove(s: &mut [Entry], e: Entry) -> Result<(), Refusal>
 pub fn lookup(s: &[Entry], e: Entry) -> Result<Value, Refusal>
     ensures { outcome (told_found result) (map numbers_of s.now) ≡ step (Lookup (key_of e)) (map numbers_of s.now) }
 {
-    cache::cache::admit(s.len(), cache::cache::fits_key(key_of(e)))?;
+    admit(s, cache::cache::fits_key(key_of(e)))?;
     match place(s, e) {
         Some(i) => Ok(value_of(s[i])),
         None => Err(Refusal::Absent),
     }
+}
+
+// What every call refuses first: a list of more than 512 entries, then a number outside its field.
+fn admit(s: &[Entry], fits: bool) -> Result<(), Refusal>
+    ensures { told_admitted result ≡ admitted (length s.now) fits }
+{
+    cache::cache::admit(s.len(), fits)
 }
 
 // Where e is stored: the first place with its key, else the first free one. The three searches are those of cache, where an

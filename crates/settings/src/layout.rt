@@ -37,11 +37,18 @@ impl Edition {
         }
     }
 
-    // Whether an entry may not stand in a block: a number above 4,095 or, in edition 2, a priority above 7.
+    // Whether an entry may not stand in a block: a number above 4,095 or, in edition 2, a priority above 7. In this form a loop
+    // over the entries asks for the edition once.
     pub(crate) fn forbids(self, number: u16, priority: u8) -> bool
         ensures { result ≡ bad (number_of self) number priority }
     {
-        4095 < number || self == Edition::Second && 7 < priority
+        if 4095 < number {
+            return true;
+        }
+        match self {
+            Edition::First => false,
+            Edition::Second => 7 < priority,
+        }
     }
 
     // Where entry k starts.

@@ -24,6 +24,8 @@ returns-then-numbers-priorities c =
           long_lists a.edition a.index a.numbers.now a.priorities.now a.out.now (is_known _ _ c.in_ok-edition.ensures) w.if-numbers-priorities.false w.if-numbers-gt64.true
     ]
 
+-- an index above 65,535
+-- is told whatever the entries and the output are
 pub returns-in_default : goal.returns-in_default
 returns-in_default c =
     let a = c.args in
