@@ -1,8 +1,8 @@
--- Looking for a row of a table, the systems that have no table, and the editions that there are. Assumes nothing.
+-- Looking for a row of a table, the systems and editions that have no table, and the editions that there are. Assumes nothing.
 use mathlib.Core.Path.{◌≡◌, refl}
 use mathlib.Core.Bool.{Bool, true, false, cond, ◌&&◌}
 use mathlib.Core.List.{List, [], ◌∷◌}
-use Prim.Native.Nat.{ℕ, ◌≤◌}
+use Prim.Native.Nat.{ℕ, zero, suc, ◌≤◌}
 use native.Mathlib.Omega.{arith}
 use lib.ListN.{get_or-eq_default}
 use lib.Dec.{eqb}
@@ -40,7 +40,7 @@ number_by_row (r ∷ rows) b l = go (eqb r.1 b && eqb r.2 l) (number_by_row rows
     go true e = refl
     go false e = e
 
--- ---- systems that have no table
+-- ---- systems and editions that have no table
 
 from_four : (s : ℕ) → (s ≡ 0 → ⊥) → (s ≡ 1 → ⊥) → (s ≡ 2 → ⊥) → (s ≡ 3 → ⊥) → 4 ≤ s
 from_four s a b c d = omega arith
@@ -52,6 +52,14 @@ from_seven s h e f g = omega arith
 pub no_table : (s : ℕ) → (s ≡ 0 → ⊥) → (s ≡ 1 → ⊥) → (s ≡ 2 → ⊥) → (s ≡ 3 → ⊥) → (s ≡ 4 → ⊥) → (s ≡ 5 → ⊥) → (s ≡ 6 → ⊥) → table_of s ≡ []
 unfolding table_of
 no_table s a b c d e f g = get_or-eq_default tables [] (from_seven s (from_four s a b c d) e f g)
+
+-- any other edition has an empty table
+pub no_edition : (edition : ℕ) → (edition ≡ 1 → ⊥) → (edition ≡ 2 → ⊥) → signals1059 edition ≡ []
+unfolding signals1059
+no_edition zero g h = refl
+no_edition (suc zero) g h = absurd (g refl)
+no_edition (suc (suc zero)) g h = absurd (h refl)
+no_edition (suc (suc (suc e))) g h = refl
 
 -- ---- by edition
 

@@ -132,9 +132,11 @@ impl<'a> Records1059<'a> {
         if m == 64 {
             return Err(Refusal::TooMany(64));
         }
-        self.first_repeat()?;
+        let repeat = self.first_repeat();
         let bits = 6 + m * 11 + n * 19;
-        if !put::has_room(bytes.len(), start, bits) {
+        let has_room = put::has_room(bytes.len(), start, bits);
+        repeat?;
+        if !has_room {
             return Err(Refusal::Room(bits));
         }
         let at = put::unsigned(bytes, start, 6, m as u64);

@@ -12,6 +12,6 @@ returns-in_err-row_at c =
 
 pub returns-in_ok-row_at : goal.returns-in_ok-row_at
 returns-in_ok-row_at c =
-    let b = c.in_ok-header.ensures.1 in
+    let h = c.in_ok-header.ensures.1 in
     let l = read_within _ c.requires _ (sym c.in_ok-row_at.ensures) in
-    absurd (omega (arith, b.1, l))
+    absurd (omega (arith, h.1, l))

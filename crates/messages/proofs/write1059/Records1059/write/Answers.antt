@@ -19,7 +19,7 @@ use Rattle.messages.proofs.write1059.Records1059.write.Goals.{Else-not-has_room}
 
 -- the block lies within the data
 room : (c : Else-not-has_room) → c.args.start + (6 + c.present-m.result * 11 + length c.args.self.now.satellites.now * 19) ≤ length c.args.bytes.now * 8
-room c = leb-true _ _ (sym c.has_room.ensures ∙ c.if-not-has_room.false)
+room c = leb-true _ _ (sym c.has_room-has_room.ensures ∙ c.if-not-has_room.false)
 
 -- each satellite has fewer than 32 biases
 narrow : (c : Else-not-has_room) (i : ℕ) → i < 64 → get_or c.link.new.self.counts i 0 < 32
@@ -31,7 +31,7 @@ first_fits : (c : Else-not-has_room) → RoomFor c.args.bytes.now c.args.start (
 first_fits c =
     sound_first c.args.bytes.now c.args.start c.args.self.now.satellites.now c.args.self.now.signals.now c.args.self.now.biases.now c.args.self.now.faultless _ _ _
     c.link.ensures (sym c.in_ok-first_crowded.ensures) _ c.present-m.ensures.0
-    c.if-m-eq64.false (sym c.in_ok-first_repeat.ensures) c.requires (room c)
+    c.if-m-eq64.false (sym c.in_ok-repeat.ensures) c.requires (room c)
 
 -- t and q are the data and the place behind the satellite count
 module _ (c : Else-not-has_room) (t : List ℕ) (q : ℕ) (d : IsPut c.args.bytes.now c.args.start (bits 6 c.present-m.result ∷ []) t q) where
@@ -39,14 +39,14 @@ module _ (c : Else-not-has_room) (t : List ℕ) (q : ℕ) (d : IsPut c.args.byte
   rest_fits =
       sound_rest c.args.bytes.now c.args.start c.args.self.now.satellites.now c.args.self.now.signals.now c.args.self.now.biases.now c.args.self.now.faultless _ _ _
       c.link.ensures (sym c.in_ok-first_crowded.ensures) _ c.present-m.ensures.0
-      c.if-m-eq64.false (sym c.in_ok-first_repeat.ensures) c.requires (room c) t q d
+      c.if-m-eq64.false (sym c.in_ok-repeat.ensures) c.requires (room c) t q d
 
   written : (u : List ℕ) → u ≡ put_all t q (satellites_from 0 64 (records1059 c.args.self.now.satellites.now c.args.self.now.signals.now c.args.self.now.biases.now))
       → outcome (Accepted (c.args.start + (6 + c.present-m.result * 11 + length c.args.self.now.satellites.now * 19))) u ≡ write_faultless c.args.bytes.now c.args.start (records1059 c.args.self.now.satellites.now c.args.self.now.signals.now c.args.self.now.biases.now)
   written u e =
       sound_put c.args.bytes.now c.args.start c.args.self.now.satellites.now c.args.self.now.signals.now c.args.self.now.biases.now c.args.self.now.faultless _ _ _
       c.link.ensures (sym c.in_ok-first_crowded.ensures) _ c.present-m.ensures.0
-      c.if-m-eq64.false (sym c.in_ok-first_repeat.ensures) c.requires (room c) t q d u e
+      c.if-m-eq64.false (sym c.in_ok-repeat.ensures) c.requires (room c) t q d u e
 
 pub link-requires : goal.link-requires
 link-requires c =
@@ -63,18 +63,18 @@ returns-then-m-eq64 c =
     let a = c.args in
     sound_all a.bytes.now a.start a.self.now.satellites.now a.self.now.signals.now a.self.now.biases.now c.args.self.now.faultless _ _ _ c.link.ensures (sym c.in_ok-first_crowded.ensures) _ c.present-m.ensures.0 c.if-m-eq64.true
 
-pub returns-in_err-first_repeat : goal.returns-in_err-first_repeat
-returns-in_err-first_repeat c =
+pub returns-in_err-repeat : goal.returns-in_err-repeat
+returns-in_err-repeat c =
     let a = c.args in
-    passed_on_with (λ q. q) _ _ _ c.from_residual-in_err-first_repeat.ensures.1
+    passed_on_with (λ q. q) _ _ _ c.from_residual-in_err-repeat.ensures.1
     ∙ sound_repeat a.bytes.now a.start a.self.now.satellites.now a.self.now.signals.now a.self.now.biases.now c.args.self.now.faultless _ _ _ c.link.ensures (sym c.in_ok-first_crowded.ensures) _ c.present-m.ensures.0 c.if-m-eq64.false
-    (sym c.in_err-first_repeat.ensures)
+    (sym c.in_err-repeat.ensures)
 
 pub returns-then-not-has_room : goal.returns-then-not-has_room
 returns-then-not-has_room c =
     let a = c.args in
-    sound_room a.bytes.now a.start a.self.now.satellites.now a.self.now.signals.now a.self.now.biases.now c.args.self.now.faultless _ _ _ c.link.ensures (sym c.in_ok-first_crowded.ensures) _ c.present-m.ensures.0 c.if-m-eq64.false (sym c.in_ok-first_repeat.ensures)
-    (leb-false _ _ (sym c.has_room.ensures ∙ c.if-not-has_room.true))
+    sound_room a.bytes.now a.start a.self.now.satellites.now a.self.now.signals.now a.self.now.biases.now c.args.self.now.faultless _ _ _ c.link.ensures (sym c.in_ok-first_crowded.ensures) _ c.present-m.ensures.0 c.if-m-eq64.false (sym c.in_ok-repeat.ensures)
+    (leb-false _ _ (sym c.has_room-has_room.ensures ∙ c.if-not-has_room.true))
 
 -- ---- where the block fits
 
