@@ -1,6 +1,5 @@
 -- The call that lists all frames, in numbers: what it returns in each case, that its statement allows one answer, and that a refusal writes nothing but the extra area. Assumes nothing.
-use mathlib.Core.Path.{◌≡◌, ◌∙◌}
-use mathlib.Core.Bool.{Bool}
+use mathlib.Core.Path.{◌≡◌, refl, sym, ◌∙◌}
 use mathlib.Core.List.{List}
 use Prim.Native.Nat.{ℕ}
 use lib.ListN.{length}
@@ -35,6 +34,12 @@ module _ (a : Areas) (w : Outcome AllAnswer Areas) (e : List ℕ) where
       → numbers r e' ≡ in_numbers all_values told → outcome told b ≡ w → returned r e' b ≡ feeds_all a w e
   unfolding feeds_all
   all_listed h k l q o = sized all_values e a h q o ∙ simp (eq-eqb (length a.held) 1029 k, eq-eqb (length a.seam) 2058 l)
+
+  pub is_listed : length e ≡ 8 → length a.held ≡ 1029 → length a.seam ≡ 2058 → feeds_all a w e ≡ record { answer = in_numbers all_values w.answer; areas = w.areas }
+  is_listed h k l = sym (all_listed {told = w.answer} {b = w.areas} h k l refl refl)
+
+-- by these the check proves the call
+pub ruleset listing = (is_listed, no_extra, no_held, no_seam)
 
 module _ (a : Areas) (count taken mode : ℕ) (piece e : List ℕ) where
   pub only_pv_feed_all : OneAnswer (feeds_all a (feed_all_of (framing_of mode) a (scanner_of count taken mode) piece) e)

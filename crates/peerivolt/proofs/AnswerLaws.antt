@@ -1,25 +1,17 @@
 -- From what a call found and what it was told to its statement. Assumes nothing.
 use mathlib.Core.Path.{◌≡◌, refl, sym, ap, ◌∙◌}
 use mathlib.Core.Bool.{Bool, true, false, cond}
-use mathlib.Core.List.{List, [], ◌∷◌}
+use mathlib.Core.List.{List}
 use Prim.Native.Nat.{ℕ}
 use lib.ListN.{length}
 use lib.Dec.{eqb}
 use borrow.Author.Tests.{eq-eqb, ne_eqb}
 use Rattle.bits.specs.Told.{Told, Accepted}
 use Rattle.bits.specs.Outcome.{Outcome, outcome}
-use Rattle.bits.specs.Refusals.{told}
-use Rattle.bits.specs.declared.refusal.Refusal.{Refusal}
-use Rattle.std.specs.Prelude.{Result, Ok, Err}
 use Rattle.frames.specs.Rtcm.{Kind}
 use Rattle.frames.specs.Call.{FedAnswer, FedOutcome}
 use Rattle.peerivolt.specs.Extra.{Numbers, numbers, in_numbers, returned, answered, reads}
 use Rattle.peerivolt.specs.Scanner.{fed_values, feeds}
-
--- the numbers of an answer are those of what it tells
-pub as_told : {T A : Type 0} (values : A → List ℕ) (value : T → A) (r : Result T Refusal) → in_numbers (λ v. values (value v)) (told (λ v. v) r) ≡ in_numbers values (told value r)
-as_told values value (Ok v) = refl
-as_told values value (Err d) = refl
 
 -- ---- any call
 
@@ -37,6 +29,13 @@ module _ {A Areas : Type 0} (values : A → List ℕ) (e : List ℕ) (before : A
       ap (λ (n : Numbers). record { answer = n; areas = after }) q
       ∙ ap (λ (u : Outcome A Areas). record { answer = in_numbers values u.answer; areas = u.areas }) o
       ∙ simp (eq-eqb (length e) 8 h)
+
+  -- the same as an equation of the statement
+  pub is_sized : (w : Outcome A Areas) → length e ≡ 8 → answered values e before w ≡ record { answer = in_numbers values w.answer; areas = w.areas }
+  is_sized w h = sym (sized {told = w.answer} {after = w.areas} {w = w} h refl refl)
+
+-- by these the check proves a call, whatever the form of its code
+pub ruleset answers = (is_sized, not_sized)
 
 -- ---- a call that is lent the extra area alone
 
@@ -72,3 +71,9 @@ unfolding feeds
 fed a o e k h q p =
     sized fed_values e (a, o) h q p
     ∙ simp (eq-eqb (length a) 1029 k)
+
+pub is_fed : (a o : List ℕ) (w : FedOutcome Kind) (e : List ℕ) → length a ≡ 1029 → length e ≡ 8 → feeds a o w e ≡ record { answer = in_numbers fed_values w.answer; areas = w.areas }
+is_fed a o w e k h = sym (fed a o {told = w.answer} {a' = w.areas.0} {o' = w.areas.1} {w = w} e k h refl refl)
+
+-- by these the check proves the call
+pub ruleset feeding = (is_fed, not_fed, not_held)

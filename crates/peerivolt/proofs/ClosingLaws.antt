@@ -1,5 +1,5 @@
 -- The closing call in numbers: what it returns in each case, that its statement allows one answer, and that a refusal writes nothing but the extra area. Assumes nothing.
-use mathlib.Core.Path.{◌≡◌, ◌∙◌}
+use mathlib.Core.Path.{◌≡◌, refl, sym, ◌∙◌}
 use mathlib.Core.List.{List}
 use Prim.Native.Nat.{ℕ}
 use lib.ListN.{length}
@@ -33,6 +33,13 @@ unfolding closes
 closed a o e k h q p =
     sized closed_values e (a, o) h q p
     ∙ simp (eq-eqb (length a) 1029 k)
+
+pub is_closed : (a o : List ℕ) (w : Outcome (ClosedAnswer Kind) (List ℕ × List ℕ)) (e : List ℕ) → length a ≡ 1029 → length e ≡ 8
+    → closes a o w e ≡ record { answer = in_numbers closed_values w.answer; areas = w.areas }
+is_closed a o w e k h = sym (closed a o {told = w.answer} {a' = w.areas.0} {o' = w.areas.1} {w = w} e k h refl refl)
+
+-- by these the check proves the call
+pub ruleset closing = (is_closed, not_closed, not_closing)
 
 pub only_pv_close : (held : List ℕ) (count taken mode : ℕ) (out e : List ℕ)
     → OneAnswer (closes held out (close_of (framing_of mode) held (scanner_of count taken mode) out) e)

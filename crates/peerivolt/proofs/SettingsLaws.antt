@@ -1,16 +1,11 @@
 -- From what reading a settings block found and told to the statement of its call. Assumes nothing.
-use mathlib.Core.Path.{◌≡◌, refl, ◌∙◌}
+use mathlib.Core.Path.{◌≡◌, refl, sym, ◌∙◌}
 use mathlib.Core.List.{List}
 use Prim.Native.Nat.{ℕ}
 use lib.ListN.{length}
 use lib.Dec.{eqb}
 use borrow.Author.Tests.{eq-eqb, ne_eqb}
-use Rattle.std.specs.Prelude.{Result, Ok, Err}
-use Rattle.std.specs.Result.{result_and}
 use Rattle.bits.specs.Told.{Told}
-use Rattle.bits.specs.Refusals.{told}
-use Rattle.bits.specs.declared.refusal.Refusal.{Refusal}
-use Rattle.peerivolt.specs.Fields.{end_values}
 use Rattle.bits.specs.Outcome.{Outcome, outcome}
 use Rattle.settings.specs.Read.{Found}
 use Rattle.peerivolt.specs.Extra.{numbers, in_numbers, returned}
@@ -35,7 +30,8 @@ module _ (ns ps : List ℕ) (w : Outcome Found (List ℕ × List ℕ)) (e : List
   unfolding reads_settings
   settings_read h k l q o = sized found_values e (ns, ps) h q o ∙ simp (eq-eqb (length ns) 64 k, eq-eqb (length ps) 64 l)
 
--- a block that was written has 512 bytes
-pub block_told : (r : Result (Unit {0}) Refusal) → in_numbers end_values (told (λ q. q) (result_and r (Ok 512))) ≡ in_numbers end_values (told (λ u. 512) r)
-block_told (Ok u) = refl
-block_told (Err d) = refl
+  pub is_read : length e ≡ 8 → length ns ≡ 64 → length ps ≡ 64 → reads_settings ns ps w e ≡ record { answer = in_numbers found_values w.answer; areas = w.areas }
+  is_read h k l = sym (settings_read {told = w.answer} {a = w.areas.0} {b = w.areas.1} h k l refl refl)
+
+-- by these the check proves the call
+pub ruleset reading_settings = (is_read, no_extra, no_numbers, no_priorities)

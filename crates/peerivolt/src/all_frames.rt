@@ -17,6 +17,7 @@ use frames::scanner::Scanner;
 // it was fresh and was opened for a mode, and lists the frames. Extra: how many frames, the bytes taken and skipped in this
 // call, the held count now, 1 if the lists are full or 0, the stream place of the first byte held before the call, and the
 // bytes taken since fresh, now.
+#[tactic(auto, using(crate::proofs::AllFramesLaws::listing))]
 #[unsafe(no_mangle)]
 pub extern "C" fn pv_feed_all(
     held: &mut [u8],

@@ -13,6 +13,7 @@ use settings::{read, write};
 
 // Reads the settings block of this index, for a reader of edition 1 or 2, into lists of 64 places each. Extra: how many
 // numbers, and the block's edition.
+#[tactic(auto, using(crate::proofs::SettingsLaws::reading_settings))]
 #[unsafe(no_mangle)]
 pub extern "C" fn pv_settings_read(
     block: &[u8],

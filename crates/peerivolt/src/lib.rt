@@ -1,6 +1,6 @@
 // The C surface: every function is called with numbers and areas, returns 0 or the number of a refusal, and spreads the
 // rest over the extra area of eight numbers. `include/peerivolt.h` says the same to a C programmer.
-#![tactic(auto)]
+#![tactic(auto, using(crate::proofs::AnswerLaws::answers))]
 
 pub mod all_frames;
 pub mod biases;

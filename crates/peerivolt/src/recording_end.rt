@@ -16,6 +16,7 @@ use frames::scanner::Scanner;
 // Closes the recording of the scanner whose held bytes are the first `count` of the area `held`, which took `taken` bytes
 // since it was fresh and was opened for a mode. Extra: 0 for Done or 1 for a frame, 0, the bytes skipped in this call, the
 // held count now, the frame's length or 0, its stream place or 0, the bytes taken since fresh, now, and the frame's kind.
+#[tactic(auto, using(crate::proofs::ClosingLaws::closing))]
 #[unsafe(no_mangle)]
 pub extern "C" fn pv_close(
     held: &mut [u8],

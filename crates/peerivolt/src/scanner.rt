@@ -14,6 +14,7 @@ use frames::scanner::{Fed, Kind, Scanner};
 // Feeds a piece to the scanner whose held bytes are the first `count` of the area `held`, which took `taken` bytes since
 // it was fresh and was opened for a mode. Extra: 0 for More or 1 for a frame, the bytes taken and skipped in this call, the
 // held count now, the frame's length or 0, its stream place or 0, the bytes taken since fresh, now, and the frame's kind.
+#[tactic(auto, using(crate::proofs::AnswerLaws::feeding))]
 #[unsafe(no_mangle)]
 pub extern "C" fn pv_feed(
     held: &mut [u8],
