@@ -50,9 +50,16 @@ impl<S: Sink> Output<S> {
     pub fn phrase(&mut self, before: &str, n: u64, width: usize, behind: &str)
         ensures { Phrase before.now n width behind.now self.old self.new }
     {
-        self.text(before);
+        self.phrase_bytes(before.as_bytes(), n, width, behind.as_bytes());
+    }
+
+    // Adds bytes, which need not be text, the number, and bytes.
+    pub fn phrase_bytes(&mut self, before: &[u8], n: u64, width: usize, behind: &[u8])
+        ensures { Phrase before.now n width behind.now self.old self.new }
+    {
+        self.bytes(before);
         self.unsigned(n, width);
-        self.text(behind);
+        self.bytes(behind);
     }
 
     // Adds an amount of hundredths as a number with two decimals.

@@ -128,14 +128,12 @@ impl Account {
         }
     }
 
-    // A piece of n bytes is read. What is left of the one before, if anything is, counts as skipped.
+    // A piece of n bytes is read, once the one before is taken.
     pub(crate) fn grown(self, n: usize) -> Account
-        ensures { Right self → n ≤ 65536 → Right result × (result.from ≡ 0) × (result.to ≡ n) }
+        ensures { AllTaken self → n ≤ 65536 → Right result × (result.from ≡ 0) × (result.to ≡ n) }
     {
-        let left = self.to.saturating_sub(self.from);
         Account {
             bytes: self.bytes.wrapping_add(n as u64),
-            skipped: self.skipped.wrapping_add(left as u64),
             from: 0,
             to: n,
             ..self

@@ -143,8 +143,18 @@ impl Program {
     pub fn misnamed(&self, wanted: &str) -> Failure
         ensures { result ≡ Failure.Refused }
     {
+        self.misnamed_bytes(wanted.as_bytes())
+    }
+
+    // The same of words that need not be text.
+    pub fn misnamed_bytes(&self, wanted: &[u8]) -> Failure
+        ensures { result ≡ Failure.Refused }
+    {
         let name = self.name;
-        self.terminal.say(format_args!("{name}: name {wanted}; {name} --help says more\n"));
+        self.say(": name ");
+        self.terminal.say_bytes(wanted);
+        self.terminal
+            .say(format_args!("; {name} --help says more\n"));
         Failure::Refused
     }
 

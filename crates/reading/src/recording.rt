@@ -20,7 +20,7 @@ pub enum Step {
 }
 
 // Where the bytes come from, and what that is called; the bytes held, the piece, the last frame that was found and its length;
-// and the account of all of these, which is right.
+// the account of all of these, which is right; and whether all of each piece was taken before the next one was read.
 #[derive(Drop)]
 pub struct Recording<'a> {
     source: Source,
@@ -31,6 +31,7 @@ pub struct Recording<'a> {
     frame: [u8; 1029],
     length: usize,
     account: Account,
+    whole: bool,
     ghost right: { Right account },
 }
 
@@ -42,14 +43,14 @@ pub struct Before {
 }
 
 impl<'a> Recording<'a> {
-    ghost use Rattle.std.specs.Prelude.{◌≡◌, ◌+◌, ◌%◌, ◌^◌};
+    ghost use Rattle.std.specs.Prelude.{◌≡◌, ◌+◌, ◌-◌, ◌%◌, ◌^◌, ◌<◌, true, false, min, take, drop};
     ghost use Rattle.reading.specs.Account.{AllTaken, RightTaken, RightClosed, RightRead, RightStep};
     ghost use Rattle.reading.specs.Number.{frame_in};
     ghost use Rattle.reading.specs.Skips.{byte_in};
 
     // Nothing is read at first.
     pub fn new(source: Source, name: &'a [u8], terminal: Terminal, mode: Mode) -> Recording<'a>
-        ensures { AllTaken result.account × (result.account.mode ≡ mode) × (result.name.now ≡ name.now) }
+        ensures { AllTaken result.account × (result.account.mode ≡ mode) × (result.name.now ≡ name.now) × (result.whole ≡ true) }
     {
         Recording {
             source,
@@ -60,6 +61,7 @@ impl<'a> Recording<'a> {
             frame: [0; 1029],
             length: 0,
             account: Account::start(mode),
+            whole: true,
         }
     }
 
@@ -92,6 +94,16 @@ impl<'a> Recording<'a> {
         }
     }
 
+    // The same over what an earlier step was about to change: the bytes held alone are copied.
+    pub fn note(&self, before: &mut Before)
+        ensures account { before.new.account ≡ self.now.account }
+        ensures held { take self.now.account.held before.new.held ≡ take self.now.account.held self.now.held }
+    {
+        let n = self.account.held;
+        before.held[..n].copy_from_slice(&self.held[..n]);
+        before.account = self.account;
+    }
+
     // How many bytes were skipped since.
     pub fn skipped_since(&self, before: &Before) -> u64
         ensures { (before.now.account.skipped + result) % 2 ^ 64 ≡ self.now.account.skipped }
@@ -107,14 +119,28 @@ impl<'a> Recording<'a> {
         skips::byte_at(&before.held, from.held, &self.piece, from.from, i)
     }
 
+    // The first n of those, where they are there: those of the bytes held then, and those of the piece.
+    pub fn bytes_since<'b>(&'b self, before: &'b Before, n: usize) -> (&'b [u8], &'b [u8])
+        ensures held { result.0.now ≡ take (min n before.now.account.held) before.now.held }
+        ensures piece { result.1.now ≡ take (n - before.now.account.held) (drop before.now.account.from self.now.piece) }
+    {
+        let then = before.account;
+        let rest = skips::behind(&self.piece, then.from);
+        (
+            skips::front(&before.held, n.min(then.held)),
+            skips::front(rest, n.saturating_sub(then.held)),
+        )
+    }
+
     // Hands out the next frame of the piece, or reads the next piece where there is none.
     pub fn next(&mut self) -> Result<Step, Failure>
-        ensures { RightStep result self.new.account }
+        ensures step { RightStep result self.new.account }
+        ensures whole { self.new.whole ≡ self.old.whole }
     {
         if let Some(found) = self.take()? {
             return Ok(Step::Frame(found));
         }
-        match self.refill()? {
+        match self.read_on()? {
             Some(_) => Ok(Step::Piece),
             None => Ok(Step::End),
         }
@@ -122,7 +148,8 @@ impl<'a> Recording<'a> {
 
     // Hands out the next frame of the piece, or takes all of it.
     pub fn take(&mut self) -> Result<Option<Found>, Failure>
-        ensures { RightTaken result self.new.account }
+        ensures taken { RightTaken result self.new.account }
+        ensures whole { self.new.whole ≡ self.old.whole }
     {
         let a = self.account;
         let Recording {
@@ -162,7 +189,8 @@ impl<'a> Recording<'a> {
 
     // At the end of the recording: hands out the next frame among the bytes held, or gives all of them up.
     pub fn close(&mut self) -> Result<Option<Found>, Failure>
-        ensures { RightClosed result self.new.account }
+        ensures closed { RightClosed result self.new.account }
+        ensures whole { self.new.whole ≡ self.old.whole }
     {
         let a = self.account;
         let Ok(closed) = close::close(&mut self.held, a.scanner(), &mut self.frame) else {
@@ -193,8 +221,10 @@ impl<'a> Recording<'a> {
 
     // Reads the next piece, once the one before is taken, and answers how many bytes it has; none at the end. Where it
     // cannot be read, that is said.
-    pub fn refill(&mut self) -> Result<Option<usize>, Failure>
-        ensures { AllTaken self.old.account → RightRead result self.new.account }
+    fn read_on(&mut self) -> Result<Option<usize>, Failure>
+        requires { AllTaken self.old.account }
+        ensures read { RightRead result self.new.account }
+        ensures whole { self.new.whole ≡ self.old.whole }
     {
         match self.source.read(&mut self.piece) {
             Ok(0) => Ok(None),
@@ -207,6 +237,20 @@ impl<'a> Recording<'a> {
                 Err(Failure::Unread)
             }
         }
+    }
+
+    // The same of any recording: what is left of the piece counts as skipped first, and the recording is not whole then.
+    pub fn refill(&mut self) -> Result<Option<usize>, Failure>
+        ensures read { AllTaken self.old.account → RightRead result self.new.account }
+        ensures whole { AllTaken self.old.account → self.new.whole ≡ self.old.whole }
+        ensures dropped { self.old.account.from < self.old.account.to → self.new.whole ≡ false }
+    {
+        let a = self.account;
+        if a.from < a.to {
+            self.whole = false;
+        }
+        self.account = a.passed(a.to.saturating_sub(a.from), a.held);
+        self.read_on()
     }
 
     // Says so if nothing was there to read.

@@ -1,5 +1,5 @@
 // The bytes that a call skipped, and how many of them were what.
-ghost use Rattle.std.specs.Prelude.{◌≡◌, slice_index};
+ghost use Rattle.std.specs.Prelude.{◌≡◌, slice_index, take, drop};
 ghost use Rattle.reading.specs.Skips.{byte_in, Counted};
 
 // How many bytes were skipped that are neither D3 nor B5, that are D3, and that are B5. Sums go round at 2^64.
@@ -61,4 +61,18 @@ fn byte_or(bytes: &[u8], i: usize) -> u8
     ensures { result ≡ slice_index bytes.now i }
 {
     bytes.get(i).copied().unwrap_or(0)
+}
+
+// The first n bytes, or all of them.
+pub(crate) fn front(bytes: &[u8], n: usize) -> &[u8]
+    ensures { result.now ≡ take n bytes.now }
+{
+    &bytes[..n.min(bytes.len())]
+}
+
+// The bytes from place n on, if there are any.
+pub(crate) fn behind(bytes: &[u8], n: usize) -> &[u8]
+    ensures { result.now ≡ drop n bytes.now }
+{
+    &bytes[n.min(bytes.len())..]
 }

@@ -2,7 +2,7 @@
 ghost use Rattle.std.specs.Prelude.{◌≡◌, IfOk, IfErr};
 
 use crate::arguments::{Kind, Word};
-use crate::{Failure, Mode, Program, Recording, arguments, asked};
+use crate::{Failure, Mode, Program, Recording, Source, arguments, asked};
 use std::env::Env;
 use std::fs::{File, Files};
 
@@ -65,6 +65,17 @@ impl Program {
             return Ok(());
         }
         let (source, name) = self.source(rt, word.bytes())?;
+        self.visit_open(source, name, mode, visitor)
+    }
+
+    // Visits an open recording. In a function of its own its areas are cleared once, and only where there is one.
+    fn visit_open(
+        &self,
+        source: Source,
+        name: &[u8],
+        mode: Mode,
+        visitor: &mut impl Visit,
+    ) -> Result<(), Failure> {
         let mut recording = Recording::new(source, name, self.terminal(), mode);
         visitor.visit(&mut recording)
     }

@@ -1,5 +1,6 @@
 // One recording: its pieces are fed, and then what is held is closed.
-ghost use Rattle.reading.specs.Account.{Right};
+ghost use Rattle.std.specs.Prelude.{◌≡◌, false, IfOk};
+ghost use Rattle.reading.specs.Account.{Right, AllTaken};
 
 use crate::list::{List, Log, Why};
 use closing::reason;
@@ -27,17 +28,20 @@ pub fn run(
     end
 }
 
-// Feeds the recording to its end. The account is right.
+// Feeds the recording to its end. The account is right, all is taken then, and the recording is as whole as it was.
 fn feed(
     program: &Program,
     recording: &mut Recording,
     list: &mut List,
     salvaged: bool,
 ) -> Result<(), Failure>
-    ensures { Right recording.new.account }
+    ensures right { Right recording.new.account }
+    ensures taken { IfOk result (λ u. AllTaken recording.new.account) }
+    ensures whole { recording.new.whole ≡ recording.old.whole }
 {
+    let mut before = recording.before();
     for _ in 0..u64::MAX {
-        let before = recording.before();
+        recording.note(&mut before);
         let found = recording.take()?;
         list_skipped(list, recording, &before);
         match found {
@@ -47,21 +51,32 @@ fn feed(
                 }
             }
             None => {
-                if recording.refill()?.is_none() {
+                if !is_read_on(recording)? {
                     return Ok(());
                 }
             }
         }
     }
-    Ok(())
+    Err(Failure::Unread)
+}
+
+// Reads the next piece, once all of the one before is taken, and answers whether there is one.
+fn is_read_on(recording: &mut Recording) -> Result<bool, Failure>
+    requires { AllTaken recording.old.account }
+    ensures taken { IfOk result (λ is_piece. is_piece ≡ false → AllTaken recording.new.account) }
+    ensures whole { recording.new.whole ≡ recording.old.whole }
+{
+    Ok(recording.refill()?.is_some())
 }
 
 // Closes the recording: hands out what is held, until nothing is. The account is right.
 fn close(program: &Program, recording: &mut Recording, list: &mut List) -> Result<(), Failure>
-    ensures { Right recording.new.account }
+    ensures right { Right recording.new.account }
+    ensures closed { IfOk result (λ u. recording.new.account.held ≡ 0) }
 {
+    let mut before = recording.before();
     for _ in 0..1030u32 {
-        let before = recording.before();
+        recording.note(&mut before);
         let found = recording.close()?;
         list_given_up(list, recording, &before);
         if found.is_none() {
@@ -69,7 +84,7 @@ fn close(program: &Program, recording: &mut Recording, list: &mut List) -> Resul
         }
         write(program, recording.frame())?;
     }
-    Ok(())
+    Err(Failure::Unread)
 }
 
 fn write(program: &Program, frame: &[u8]) -> Result<(), Failure> {
@@ -77,11 +92,20 @@ fn write(program: &Program, frame: &[u8]) -> Result<(), Failure> {
     Ok(())
 }
 
-// Lists what a feeding call skipped. The bytes lie in two areas, so that each is asked for by its place.
+// Lists what a feeding call skipped. The bytes lie in two areas.
 fn list_skipped(list: &mut List, recording: &Recording, before: &Before) {
-    for i in 0..recording.skipped_since(before) {
-        let skip = reason::skipped(recording.byte_since(before, i as usize));
-        list.add(before.place().wrapping_add(i), Why::from(skip));
+    let n = recording.skipped_since(before) as usize;
+    let (held, piece) = recording.bytes_since(before, n);
+    let place = before.place();
+    list_bytes(list, held, place);
+    list_bytes(list, piece, place.wrapping_add(held.len() as u64));
+}
+
+// Lists bytes that were skipped, the first of which stands at the place.
+fn list_bytes(list: &mut List, bytes: &[u8], place: u64) {
+    for (i, byte) in (0u64..).zip(bytes) {
+        let skip = reason::skipped(*byte);
+        list.add(place.wrapping_add(i), Why::from(skip));
     }
 }
 

@@ -1,7 +1,8 @@
 // Shows the frames of recordings: a row for each, and an account of every byte, with why bytes were skipped.
 #![tactic(auto)]
 
-ghost use Rattle.reading.specs.Account.{Right};
+ghost use Rattle.std.specs.Prelude.{◌≡◌, false, IfOk};
+ghost use Rattle.reading.specs.Account.{Right, AllTaken};
 
 mod options;
 mod table;
@@ -81,7 +82,8 @@ impl Visit for Rows {
     }
 }
 
-// Goes through the frames, each row being written when its frame has arrived. The account at the end is right.
+// Goes through the frames, each row being written when its frame has arrived. The account at the end is right, all is taken
+// then, and the recording is as whole as it was.
 fn scan(
     recording: &mut Recording,
     ways: Ways,
@@ -89,10 +91,13 @@ fn scan(
     numbers: &mut Numbers,
     out: &mut Output<Terminal>,
 ) -> Result<(), Failure>
-    ensures { Right recording.new.account }
+    ensures right { Right recording.new.account }
+    ensures taken { IfOk result (λ u. AllTaken recording.new.account) }
+    ensures whole { recording.new.whole ≡ recording.old.whole }
 {
+    let mut before = recording.before();
     for _ in 0..u64::MAX {
-        let before = recording.before();
+        recording.note(&mut before);
         let found = recording.take()?;
         *skips = skipped(*skips, recording, &before);
         match found {
@@ -109,15 +114,20 @@ fn scan(
             }
         }
     }
-    Ok(())
+    Err(Failure::Unread)
 }
 
-// Reads the next piece, and answers whether there is one. Before the first one stands the head of the table.
+// Reads the next piece, once all of the one before is taken, and answers whether there is one. Before the first one stands the
+// head of the table.
 fn is_read_on(
     recording: &mut Recording,
     ways: Ways,
     out: &mut Output<Terminal>,
-) -> Result<bool, Failure> {
+) -> Result<bool, Failure>
+    requires { AllTaken recording.old.account }
+    ensures taken { IfOk result (λ is_piece. is_piece ≡ false → AllTaken recording.new.account) }
+    ensures whole { recording.new.whole ≡ recording.old.whole }
+{
     let is_first = recording.account().bytes == 0;
     if recording.refill()?.is_none() {
         recording.say_if_empty();
@@ -131,9 +141,15 @@ fn is_read_on(
 
 // Counts what a step skipped.
 fn skipped(counted: Skips, recording: &Recording, before: &Before) -> Skips {
+    let n = recording.skipped_since(before) as usize;
+    let (held, piece) = recording.bytes_since(before, n);
+    with_bytes(with_bytes(counted, held), piece)
+}
+
+fn with_bytes(counted: Skips, bytes: &[u8]) -> Skips {
     let mut skips = counted;
-    for i in 0..recording.skipped_since(before) {
-        skips = skips.count(recording.byte_since(before, i as usize));
+    for byte in bytes {
+        skips = skips.count(*byte);
     }
     skips
 }

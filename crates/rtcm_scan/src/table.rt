@@ -136,15 +136,16 @@ fn sum(out: &mut Output<Terminal>, account: Account) {
 
 fn by_number(out: &mut Output<Terminal>, numbers: &Numbers) {
     for (number, n) in (0u16..).zip(&numbers.counts) {
-        of_number(out, Some(number), *n);
+        if *n != 0 {
+            of_number(out, Some(number), *n);
+        }
     }
-    of_number(out, None, numbers.without);
+    if numbers.without != 0 {
+        of_number(out, None, numbers.without);
+    }
 }
 
 fn of_number(out: &mut Output<Terminal>, number: Option<u16>, n: u64) {
-    if n == 0 {
-        return;
-    }
     out.text("  message");
     message(out, number);
     out.phrase("", n, 12, "\n");

@@ -1,0 +1,6 @@
+-- At each turn the recording is as whole as at first.
+use Rattle.std.proofs.Common.{◌≡◌}
+use Rattle.rtcm_scan.proofs.scan.Given as goal
+
+abbrev pub invariant-loop : goal.invariant-loop
+invariant-loop l = l.recording.whole ≡ l.fn.recording.whole
